@@ -1,0 +1,84 @@
+//! What a driver may do with a copy of flows.rs, and what it may read of its state.
+
+/// Plain binary64; a name of its own because the checked copies give `f64` another meaning.
+pub type Double = f64;
+
+/// An owner, in the order in which owners are listed.
+#[derive(Clone, Copy, Debug, PartialEq, Eq, PartialOrd, Ord)]
+pub enum Party {
+    Worker(u32),
+    Handoff,
+    Write,
+}
+
+/// One submission, its arguments already found to be in order.
+pub struct Submission<'a> {
+    pub id: u32,
+    pub owner: Party,
+    pub bytes: u64,
+    pub latency: Double,
+    pub cap: Option<Double>,
+    pub time: Double,
+    pub path: &'a [usize],
+}
+
+/// An edge as it stands.
+pub struct EdgeView {
+    pub capacity: Double,
+    pub bytes_moved: Double,
+    pub load_integral: Double,
+}
+
+/// A transfer in flight as it stands; the copy in hash order has no slots.
+pub struct TransferView {
+    pub slot: Option<usize>,
+    pub id: u32,
+    pub owner: Party,
+    pub latency: Double,
+    pub bytes: Double,
+    pub cap: Option<Double>,
+    pub rate: Double,
+    pub last: Double,
+    pub path: Vec<usize>,
+}
+
+pub trait Simulator {
+    /// The same state once more.
+    fn copy(&self) -> Box<dyn Simulator>;
+
+    fn add_edge(&mut self, capacity: Double) -> usize;
+    fn widen(&mut self, edge: usize, amount: Double);
+    fn submit(&mut self, submission: &Submission);
+    fn advance(&mut self, time: Double) -> Vec<(Party, u32)>;
+    fn cancel(&mut self, id: u32);
+    /// The ids of an owner, ascending; none where nothing waits.
+    fn take_completed(&mut self, owner: Party) -> Vec<u32>;
+    fn owners_with_completions(&self) -> Vec<Party>;
+    fn next_completion_delay(&mut self) -> Option<Double>;
+    fn estimate_new(&self, path: &[usize], bytes: Double, latency: Double, cap: Option<Double>) -> Double;
+    fn estimate_remaining(&mut self, id: u32) -> Double;
+    /// Brings rates up to date and reads one.
+    fn rate(&mut self, id: u32) -> Option<Double>;
+    fn mean_in_flight(&self, edge: usize, until: Double) -> Double;
+
+    fn now(&self) -> Double;
+    fn stale(&self) -> bool;
+    fn next_done(&self) -> Option<Double>;
+    /// Rounds of the last filling; only the patched copies count them.
+    fn rounds(&self) -> Option<u64>;
+    fn edges(&self) -> usize;
+    fn edge(&self, edge: usize) -> EdgeView;
+    fn contains(&self, id: u32) -> bool;
+    fn in_flight(&self) -> usize;
+    fn peak(&self) -> usize;
+    /// Submissions by kind: worker, hand-off, write.
+    fn submitted(&self) -> [u64; 3];
+    fn bytes_submitted(&self) -> [Double; 3];
+    /// By slot where there are slots, else by id.
+    fn transfers(&self) -> Vec<TransferView>;
+    fn ids(&self) -> Vec<u32>;
+    fn owner(&self, id: u32) -> Option<Party>;
+    /// What waits uncollected: owners in order, then ids ascending.
+    fn queued(&self) -> Vec<(Party, u32)>;
+    fn uncollected(&self) -> usize;
+}

@@ -1,0 +1,176 @@
+//! What the build scripts share: where flows.rs stands, and how the generated copies are made from it.
+
+use std::fs;
+use std::path::{Path, PathBuf};
+
+/// Path of the ported file below the folder that holds the published sources.
+const BELOW: &str = "src/kv_cache/flows.rs";
+
+/// The text of flows.rs, and a line for cargo so that an edit of it builds anew.
+pub fn flows_text() -> Result<String, String> {
+    println!("cargo::rerun-if-env-changed=FLOWS_SRC");
+    let file = flows_file()?;
+    println!("cargo::rerun-if-changed={}", file.display());
+    fs::read_to_string(&file).map_err(|e| format!("cannot read {}: {e}", file.display()))
+}
+
+/// FLOWS_SRC where it is set, else docs/src in the repository, else shared/docs/src beside the repository.
+fn flows_file() -> Result<PathBuf, String> {
+    let repository = repository();
+    let folders = match std::env::var_os("FLOWS_SRC") {
+        // A relative setting counts from the repository; an absolute one replaces it.
+        Some(set) if !set.is_empty() => vec![repository.join(set)],
+        _ => vec![repository.join("docs/src"), repository.join("../shared/docs/src")],
+    };
+    let files: Vec<PathBuf> = folders.iter().map(|f| f.join(BELOW)).collect();
+    if let Some(file) = files.iter().find(|f| f.is_file()) {
+        return Ok(file.clone());
+    }
+    let tried: Vec<String> = files.iter().map(|f| f.display().to_string()).collect();
+    Err(format!("flows.rs is missing (set FLOWS_SRC to the folder above {BELOW}); looked at {}", tried.join(", ")))
+}
+
+/// The folder above oracle/.
+fn repository() -> PathBuf {
+    let package = PathBuf::from(std::env::var_os("CARGO_MANIFEST_DIR").expect("run by cargo"));
+    package.join("../../..")
+}
+
+/// Applies a unified diff of one file. Every context and removed line must match: a changed flows.rs fails here.
+pub fn apply_patch(text: &str, patch: &str) -> Result<String, String> {
+    let old: Vec<&str> = text.lines().collect();
+    let mut new: Vec<&str> = Vec::new();
+    let mut taken = 0;
+    for line in patch.lines() {
+        if let Some(header) = line.strip_prefix("@@ -") {
+            let start = hunk_start(header)?;
+            new.extend(old.get(taken..start).ok_or("hunks out of order")?);
+            taken = start;
+        } else if line.starts_with("---") || line.starts_with("+++") {
+            continue;
+        } else if let Some(added) = line.strip_prefix('+') {
+            new.push(added);
+        } else if let Some(gone) = line.strip_prefix('-') {
+            expect_line(&old, taken, gone)?;
+            taken += 1;
+        } else if let Some(kept) = line.strip_prefix(' ') {
+            expect_line(&old, taken, kept)?;
+            new.push(kept);
+            taken += 1;
+        } else {
+            return Err(format!("not a line of a diff: {line}"));
+        }
+    }
+    new.extend(&old[taken..]);
+    Ok(new.join("\n") + "\n")
+}
+
+/// Index of a hunk's first old line: "131,3 +131,4 @@" gives 130.
+fn hunk_start(header: &str) -> Result<usize, String> {
+    let digits: String = header.chars().take_while(char::is_ascii_digit).collect();
+    let line: usize = digits.parse().map_err(|_| format!("bad hunk: {header}"))?;
+    line.checked_sub(1).ok_or_else(|| format!("bad hunk: {header}"))
+}
+
+fn expect_line(old: &[&str], at: usize, wanted: &str) -> Result<(), String> {
+    match old.get(at) {
+        Some(line) if *line == wanted => Ok(()),
+        other => Err(format!("line {} of flows.rs is {other:?}, the patch wants {wanted:?}", at + 1)),
+    }
+}
+
+/// Replaces a text that must stand there exactly once.
+pub fn substitute(text: &str, from: &str, to: &str) -> Result<String, String> {
+    match text.matches(from).count() {
+        1 => Ok(text.replacen(from, to, 1)),
+        n => Err(format!("{from:?} stands {n} times in flows.rs, not once")),
+    }
+}
+
+/// Adds the round number: a field, a zero at the start of a filling, one more in each round.
+pub fn count_rounds(text: &str) -> Result<String, String> {
+    let field = "pub struct Flows {\n";
+    let start = "let n = ts.len();\n";
+    let round = "while unfrozen > 0 {\n";
+    let text = substitute(text, field, &format!("{field}    rounds: u64,\n"))?;
+    let text = substitute(&text, start, &format!("{start}        self.rounds = 0;\n"))?;
+    substitute(&text, round, &format!("{round}            self.rounds += 1;\n"))
+}
+
+/// Swaps the number type: `f64` becomes a type of the same name that notes inexact operations.
+/// Casts to f64 become a method, float literals are wrapped; not another letter changes.
+pub fn swap_numbers(text: &str) -> String {
+    let text = text.replace(" as f64", ".as_f64()");
+    let mut swapped = String::new();
+    for line in text.lines() {
+        let (code, remark) = line.split_at(line.find("//").unwrap_or(line.len()));
+        swapped += &wrap_literals(code);
+        swapped += remark;
+        swapped.push('\n');
+    }
+    swapped + "use crate::checked::{AsF64, Checked as f64};\n"
+}
+
+/// `0.0`, `4.0`, `1e-6`, `1e-12` become `f64::literal(..)`; tuple fields like `a.1` and ranges are left alone.
+fn wrap_literals(code: &str) -> String {
+    let chars: Vec<char> = code.chars().collect();
+    let mut out = String::new();
+    let mut i = 0;
+    while i < chars.len() {
+        let starts = chars[i].is_ascii_digit() && (i == 0 || !is_part_of_name(chars[i - 1]));
+        if !starts {
+            out.push(chars[i]);
+            i += 1;
+            continue;
+        }
+        let length = literal_length(&chars[i..]);
+        let literal: String = chars[i..i + length].iter().collect();
+        let float = literal.contains('.') || literal.contains('e');
+        out += &if float { format!("f64::literal({literal})") } else { literal };
+        i += length;
+    }
+    out
+}
+
+fn is_part_of_name(c: char) -> bool {
+    c.is_ascii_alphanumeric() || c == '_' || c == '.'
+}
+
+/// Length of the number that starts here: digits, a point followed by a digit, an exponent.
+fn literal_length(chars: &[char]) -> usize {
+    let digits = |from: usize| chars[from..].iter().take_while(|c| c.is_ascii_digit()).count();
+    let mut length = digits(0);
+    if chars.get(length) == Some(&'.') && chars.get(length + 1).is_some_and(char::is_ascii_digit) {
+        length += 1 + digits(length + 1);
+    }
+    if chars.get(length) == Some(&'e') && chars.get(length + 1) == Some(&'-') {
+        length += 2 + digits(length + 2);
+    }
+    length
+}
+
+/// Writes a generated file, leaving it untouched where it already says the same.
+pub fn write(file: &Path, text: &str) -> Result<(), String> {
+    if fs::read_to_string(file).is_ok_and(|now| now == text) {
+        return Ok(());
+    }
+    fs::write(file, text).map_err(|e| format!("cannot write {}: {e}", file.display()))
+}
+
+/// Declares each generated file as a module, for `include!` at the root of a crate.
+pub fn modules(folder: &Path, names: &[String]) -> String {
+    let declare = |name: &String| {
+        let file = folder.join(format!("{name}.rs"));
+        format!("#[allow(dead_code, clippy::all)]\n#[path = {file:?}]\npub mod {name};\n")
+    };
+    names.iter().map(declare).collect()
+}
+
+/// Ends a build script: a failure is one line of cargo's errors.
+pub fn finish(made: Result<(), String>) {
+    if let Err(why) = made {
+        println!("cargo::error={why}");
+        eprintln!("{why}");
+        std::process::exit(1);
+    }
+}

@@ -1,0 +1,2 @@
+//! The one dependency of flows.rs under its own name.
+include!(concat!(env!("OUT_DIR"), "/source.rs"));

@@ -1,0 +1,20 @@
+//! generate SEED COUNT PROFILE: COUNT lines of random script on standard output.
+
+use std::io::Write;
+use tools::generator::{profile, script};
+
+fn main() {
+    let words: Vec<String> = std::env::args().skip(1).collect();
+    let Some((seed, count, profile)) = read(&words) else {
+        eprintln!("usage: generate SEED COUNT whole|wild|plans|crowd|wrong|ties");
+        std::process::exit(2);
+    };
+    let text = script(seed, count, profile).join("\n") + "\n";
+    // A reader that stops early is no fault of ours.
+    let _ = std::io::stdout().write_all(text.as_bytes());
+}
+
+fn read(words: &[String]) -> Option<(u64, usize, tools::generator::Profile)> {
+    let [seed, count, name] = words else { return None };
+    Some((seed.parse().ok()?, count.parse().ok()?, profile(name)?))
+}

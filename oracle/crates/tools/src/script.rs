@@ -1,0 +1,251 @@
+//! The session script: one call to a line, read and written.
+
+use copies::Party;
+use std::fmt;
+
+/// Longest buffer and path that a script may ask for.
+pub const MOST_PLACES: usize = 1024;
+pub const MOST_PATH: usize = 128;
+
+/// A call as read. Doubles keep their bits; the session reads negative zero as zero.
+#[derive(Clone, Debug)]
+pub enum Call {
+    New,
+    AddEdge { capacity: f64 },
+    Widen { edge: u32, amount: f64 },
+    Submit { id: u32, owner: Party, bytes: u64, latency: f64, cap: Option<f64>, time: f64, path: Vec<u32> },
+    Advance { time: f64, places: usize },
+    Cancel { id: u32 },
+    TakeCompleted { owner: Party, places: usize },
+    OwnersWithCompletions { places: usize },
+    NextCompletionDelay,
+    EstimateNew { bytes: f64, latency: f64, cap: Option<f64>, path: Vec<u32> },
+    EstimateRemaining { id: u32 },
+    MeanInFlight { edge: u32, until: f64 },
+    Rate { id: u32 },
+    Rounds,
+    Contains { id: u32 },
+    Now,
+    Edge { edge: u32 },
+    Counts,
+    Dump,
+}
+
+/// A line of a script.
+#[derive(Clone, Debug)]
+pub enum Line {
+    Blank,
+    Call(Call),
+    Malformed,
+}
+
+/// Takes the remark off a line, and the blanks around the rest.
+pub fn without_remark(line: &str) -> &str {
+    line.split('#').next().unwrap_or("").trim()
+}
+
+pub fn read_line(line: &str) -> Line {
+    let text = without_remark(line);
+    if text.is_empty() {
+        return Line::Blank;
+    }
+    let mut words = Words { rest: text.split_ascii_whitespace() };
+    match words.call() {
+        Some(call) if words.rest.next().is_none() => Line::Call(call),
+        _ => Line::Malformed,
+    }
+}
+
+struct Words<'a> {
+    rest: std::str::SplitAsciiWhitespace<'a>,
+}
+
+impl<'a> Words<'a> {
+    fn word(&mut self) -> Option<&'a str> {
+        self.rest.next()
+    }
+
+    fn call(&mut self) -> Option<Call> {
+        Some(match self.word()? {
+            "new" => Call::New,
+            "add_edge" => Call::AddEdge { capacity: self.double()? },
+            "widen" => Call::Widen { edge: self.number()?, amount: self.double()? },
+            "submit" => Call::Submit {
+                id: self.number()?,
+                owner: self.owner()?,
+                bytes: self.bytes()?,
+                latency: self.double()?,
+                cap: self.cap()?,
+                time: self.double()?,
+                path: self.path()?,
+            },
+            "advance" => Call::Advance { time: self.double()?, places: self.places()? },
+            "cancel" => Call::Cancel { id: self.number()? },
+            "take_completed" => Call::TakeCompleted { owner: self.owner()?, places: self.places()? },
+            "owners_with_completions" => Call::OwnersWithCompletions { places: self.places()? },
+            "next_completion_delay" => Call::NextCompletionDelay,
+            "estimate_new" => Call::EstimateNew {
+                bytes: self.double()?,
+                latency: self.double()?,
+                cap: self.cap()?,
+                path: self.path()?,
+            },
+            "estimate_remaining" => Call::EstimateRemaining { id: self.number()? },
+            "mean_in_flight" => Call::MeanInFlight { edge: self.number()?, until: self.double()? },
+            "rate" => Call::Rate { id: self.number()? },
+            "rounds" => Call::Rounds,
+            "contains" => Call::Contains { id: self.number()? },
+            "now" => Call::Now,
+            "edge" => Call::Edge { edge: self.number()? },
+            "counts" => Call::Counts,
+            "dump" => Call::Dump,
+            _ => return None,
+        })
+    }
+
+    fn double(&mut self) -> Option<f64> {
+        read_double(self.word()?)
+    }
+
+    /// A decimal u32.
+    fn number(&mut self) -> Option<u32> {
+        self.bytes()?.try_into().ok()
+    }
+
+    /// A decimal u64.
+    fn bytes(&mut self) -> Option<u64> {
+        let word = self.word()?;
+        let digits = word.bytes().all(|b| b.is_ascii_digit());
+        if digits { word.parse().ok() } else { None }
+    }
+
+    fn places(&mut self) -> Option<usize> {
+        let places = self.number()? as usize;
+        (places <= MOST_PLACES).then_some(places)
+    }
+
+    fn cap(&mut self) -> Option<Option<f64>> {
+        let word = self.word()?;
+        if word == "-" { Some(None) } else { read_double(word).map(Some) }
+    }
+
+    fn owner(&mut self) -> Option<Party> {
+        match (self.number()?, self.number()?) {
+            (0, worker) => Some(Party::Worker(worker)),
+            (1, 0) => Some(Party::Handoff),
+            (2, 0) => Some(Party::Write),
+            _ => None,
+        }
+    }
+
+    fn path(&mut self) -> Option<Vec<u32>> {
+        let length = self.number()? as usize;
+        if length > MOST_PATH {
+            return None;
+        }
+        (0..length).map(|_| self.number()).collect()
+    }
+}
+
+/// 16 hex digits are bits; anything else is a decimal number of at most 15 digits.
+pub fn read_double(word: &str) -> Option<f64> {
+    if word.len() == 16 && word.bytes().all(|b| b.is_ascii_hexdigit()) {
+        return u64::from_str_radix(word, 16).ok().map(f64::from_bits);
+    }
+    let (negative, size) = match word.strip_prefix('-') {
+        Some(rest) => (true, rest),
+        None => (false, word),
+    };
+    let (whole, fraction) = size.split_once('.').unwrap_or((size, "0"));
+    let given = size.bytes().filter(u8::is_ascii_digit).count();
+    let sound = |part: &str| !part.is_empty() && part.bytes().all(|b| b.is_ascii_digit());
+    if !sound(whole) || !sound(fraction) || given > 15 {
+        return None;
+    }
+    // Both are below 2^53, so the one division rounds to the nearest double.
+    let digits: u64 = format!("{whole}{fraction}").parse().ok()?;
+    let value = digits as f64 / 10f64.powi(fraction.len() as i32);
+    Some(if negative { -value } else { value })
+}
+
+/// The decimal form where it reads back to the same bits, else the bits.
+pub fn write_double(value: f64) -> String {
+    let decimal = format!("{value}");
+    let same = read_double(&decimal).is_some_and(|read| read.to_bits() == value.to_bits());
+    let negative_zero = value == 0.0 && value.is_sign_negative();
+    if decimal.len() < 16 && same && !negative_zero { decimal } else { hex(value) }
+}
+
+/// A double as answers have it.
+pub fn hex(value: f64) -> String {
+    format!("{:016x}", value.to_bits())
+}
+
+pub fn kind(owner: Party) -> usize {
+    match owner {
+        Party::Worker(_) => 0,
+        Party::Handoff => 1,
+        Party::Write => 2,
+    }
+}
+
+pub fn worker(owner: Party) -> u32 {
+    match owner {
+        Party::Worker(number) => number,
+        _ => 0,
+    }
+}
+
+/// A path with its length in front.
+pub fn write_path<N: fmt::Display>(path: &[N]) -> String {
+    let mut text = path.len().to_string();
+    for edge in path {
+        text += &format!(" {edge}");
+    }
+    text
+}
+
+fn write_cap(cap: Option<f64>) -> String {
+    cap.map_or("-".to_string(), write_double)
+}
+
+fn write_owner(owner: Party) -> String {
+    format!("{} {}", kind(owner), worker(owner))
+}
+
+impl fmt::Display for Call {
+    fn fmt(&self, f: &mut fmt::Formatter) -> fmt::Result {
+        let double = |value: &f64| write_double(*value);
+        match self {
+            Call::New => write!(f, "new"),
+            Call::AddEdge { capacity } => write!(f, "add_edge {}", double(capacity)),
+            Call::Widen { edge, amount } => write!(f, "widen {edge} {}", double(amount)),
+            Call::Submit { id, owner, bytes, latency, cap, time, path } => write!(
+                f,
+                "submit {id} {} {bytes} {} {} {} {}",
+                write_owner(*owner),
+                double(latency),
+                write_cap(*cap),
+                double(time),
+                write_path(path)
+            ),
+            Call::Advance { time, places } => write!(f, "advance {} {places}", double(time)),
+            Call::Cancel { id } => write!(f, "cancel {id}"),
+            Call::TakeCompleted { owner, places } => write!(f, "take_completed {} {places}", write_owner(*owner)),
+            Call::OwnersWithCompletions { places } => write!(f, "owners_with_completions {places}"),
+            Call::NextCompletionDelay => write!(f, "next_completion_delay"),
+            Call::EstimateNew { bytes, latency, cap, path } => {
+                write!(f, "estimate_new {} {} {} {}", double(bytes), double(latency), write_cap(*cap), write_path(path))
+            }
+            Call::EstimateRemaining { id } => write!(f, "estimate_remaining {id}"),
+            Call::MeanInFlight { edge, until } => write!(f, "mean_in_flight {edge} {}", double(until)),
+            Call::Rate { id } => write!(f, "rate {id}"),
+            Call::Rounds => write!(f, "rounds"),
+            Call::Contains { id } => write!(f, "contains {id}"),
+            Call::Now => write!(f, "now"),
+            Call::Edge { edge } => write!(f, "edge {edge}"),
+            Call::Counts => write!(f, "counts"),
+            Call::Dump => write!(f, "dump"),
+        }
+    }
+}

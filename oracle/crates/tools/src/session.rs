@@ -1,0 +1,303 @@
+//! The thin layer between a script and a copy of flows.rs: what the port adds and the Rust lacks.
+//!
+//! Refusals stand call by call as a list of (number, when), in document 01's numbers and in the order of asking; the first
+//! that holds is the answer. Everything that is computed comes from the copy.
+
+use crate::script::{hex, kind, worker, write_path, Call, Line};
+use copies::{Party, Simulator, Submission};
+use std::io::{BufRead, Write};
+
+/// The bounds of document 01.
+const MOST_EDGES: usize = 64;
+const LONGEST_PATH: usize = 8;
+const MOST_ENTRIES: usize = 256;
+const MOST_BYTES: u64 = 1 << 53;
+const LATEST: f64 = (1u64 << 40) as f64;
+/// What each place of a lent buffer holds before a call.
+const UNTOUCHED: u32 = 0xA5A5_A5A5;
+
+/// Makes a fresh simulator.
+pub type Maker = fn() -> Box<dyn Simulator>;
+
+pub struct Session {
+    make: Maker,
+    pub sim: Box<dyn Simulator>,
+    completed: [u64; 3],
+    cancelled: [u64; 3],
+    /// Leaves slots and rounds out, for a copy that has none.
+    common: bool,
+}
+
+impl Session {
+    pub fn new(make: Maker, common: bool) -> Session {
+        Session { make, sim: make(), completed: [0; 3], cancelled: [0; 3], common }
+    }
+
+    /// The same session once more, to try a call on.
+    pub fn copy(&self) -> Session {
+        Session { sim: self.sim.copy(), ..*self }
+    }
+
+    pub fn answer_line(&mut self, line: &Line) -> Option<String> {
+        match line {
+            Line::Blank => None,
+            Line::Malformed => Some("malformed".to_string()),
+            Line::Call(call) => Some(self.answer(call)),
+        }
+    }
+
+    pub fn answer(&mut self, call: &Call) -> String {
+        if let Some(number) = self.refusal(call) {
+            return format!("refused {number}");
+        }
+        self.accepted(call)
+    }
+
+    /// The refusal that holds before any work is done; 8 needs the list and is found with it.
+    pub fn refusal(&self, call: &Call) -> Option<u32> {
+        let sim = &self.sim;
+        let absent = |edge: &u32| *edge as usize >= sim.edges();
+        let causes: Vec<(u32, bool)> = match call {
+            Call::AddEdge { capacity } => vec![(1, !not_below_zero(*capacity)), (7, sim.edges() >= MOST_EDGES)],
+            Call::Widen { edge, amount } => vec![
+                (1, !amount.is_finite()),
+                (3, absent(edge)),
+                // The sum is judged last: only an edge that is there has one.
+                (1, !absent(edge) && !not_below_zero(sim.edge(*edge as usize).capacity + amount)),
+            ],
+            Call::Submit { id, owner, bytes, latency, cap, time, path } => vec![
+                (1, !latency.is_finite() || !cap_in_order(*cap) || !is_clock_time(*time)),
+                (2, *time < sim.now()),
+                (3, path.iter().any(absent)),
+                (4, path.len() > LONGEST_PATH),
+                (5, *bytes > MOST_BYTES),
+                (6, sim.contains(*id)),
+                (7, sim.in_flight() + sim.uncollected() >= MOST_ENTRIES),
+                (9, sim.submitted()[kind(*owner)] == u64::MAX),
+            ],
+            Call::Advance { time, .. } => vec![(1, !is_clock_time(*time)), (2, *time < sim.now())],
+            Call::EstimateNew { bytes, latency, cap, path } => vec![
+                (1, !not_below_zero(*bytes) || !latency.is_finite() || !cap_in_order(*cap)),
+                (3, path.iter().any(absent)),
+                (4, path.len() > LONGEST_PATH),
+            ],
+            Call::MeanInFlight { edge, until } => vec![(1, !until.is_finite()), (3, absent(edge))],
+            Call::Edge { edge } => vec![(3, absent(edge))],
+            _ => vec![],
+        };
+        causes.into_iter().find(|(_, holds)| *holds).map(|(number, _)| number)
+    }
+
+    fn accepted(&mut self, call: &Call) -> String {
+        match call {
+            Call::New => {
+                *self = Session::new(self.make, self.common);
+                "done".to_string()
+            }
+            Call::AddEdge { capacity } => format!("edge {}", self.sim.add_edge(plus_zero(*capacity))),
+            Call::Widen { edge, amount } => {
+                self.sim.widen(*edge as usize, plus_zero(*amount));
+                "done".to_string()
+            }
+            Call::Submit { id, owner, bytes, latency, cap, time, path } => {
+                self.sim.submit(&Submission {
+                    id: *id,
+                    owner: *owner,
+                    bytes: *bytes,
+                    latency: plus_zero(*latency),
+                    cap: cap.map(plus_zero),
+                    time: plus_zero(*time),
+                    path: &numbers(path),
+                });
+                "done".to_string()
+            }
+            Call::Advance { time, places } => self.advance(plus_zero(*time), *places),
+            Call::Cancel { id } => self.cancel(*id),
+            Call::TakeCompleted { owner, places } => self.take_completed(*owner, *places),
+            Call::OwnersWithCompletions { places } => {
+                let owners = self.sim.owners_with_completions();
+                let entries: Vec<[u32; 2]> = owners.iter().map(|o| [kind(*o) as u32, worker(*o)]).collect();
+                write_list(&entries, *places).unwrap_or_else(too_short)
+            }
+            Call::NextCompletionDelay => match self.sim.next_completion_delay() {
+                Some(delay) => format!("after {}", hex(delay)),
+                None => "never".to_string(),
+            },
+            Call::EstimateNew { bytes, latency, cap, path } => {
+                let cap = cap.map(plus_zero);
+                value(self.sim.estimate_new(&numbers(path), plus_zero(*bytes), plus_zero(*latency), cap))
+            }
+            Call::EstimateRemaining { id } => value(self.sim.estimate_remaining(*id)),
+            Call::MeanInFlight { edge, until } => value(self.sim.mean_in_flight(*edge as usize, plus_zero(*until))),
+            Call::Rate { id } => self.sim.rate(*id).map_or("unknown".to_string(), value),
+            Call::Rounds => format!("number {}", self.rounds()),
+            Call::Contains { id } => (if self.sim.contains(*id) { "yes" } else { "no" }).to_string(),
+            Call::Now => value(self.sim.now()),
+            Call::Edge { edge } => format!("edge {}", self.edge(*edge as usize)),
+            Call::Counts => self.counts(),
+            Call::Dump => self.dump(),
+        }
+    }
+
+    /// Done on a copy where the buffer might be short, so that a refusal leaves no trace.
+    fn advance(&mut self, time: f64, places: usize) -> String {
+        let before = (places < 3 * self.sim.in_flight()).then(|| self.sim.copy());
+        let done = self.sim.advance(time);
+        let entries: Vec<[u32; 3]> = done.iter().map(|(o, id)| [kind(*o) as u32, worker(*o), *id]).collect();
+        match (write_list(&entries, places), before) {
+            (Some(text), _) => {
+                done.iter().for_each(|(owner, _)| self.completed[kind(*owner)] += 1);
+                text
+            }
+            (None, before) => {
+                self.sim = before.expect("a short buffer was foreseen");
+                too_short()
+            }
+        }
+    }
+
+    fn cancel(&mut self, id: u32) -> String {
+        let Some(owner) = self.sim.owner(id) else { return "unknown".to_string() };
+        self.sim.cancel(id);
+        self.cancelled[kind(owner)] += 1;
+        "done".to_string()
+    }
+
+    fn take_completed(&mut self, owner: Party, places: usize) -> String {
+        let waiting = self.sim.queued().iter().filter(|(o, _)| *o == owner).count();
+        if waiting == 0 {
+            return "nothing".to_string();
+        }
+        if places < waiting {
+            return too_short();
+        }
+        let entries: Vec<[u32; 1]> = self.sim.take_completed(owner).into_iter().map(|id| [id]).collect();
+        write_list(&entries, places).unwrap_or_else(too_short)
+    }
+
+    fn rounds(&self) -> String {
+        match self.sim.rounds() {
+            Some(rounds) if !self.common => rounds.to_string(),
+            _ => "-".to_string(),
+        }
+    }
+
+    fn edge(&self, edge: usize) -> String {
+        let e = self.sim.edge(edge);
+        format!("{} {} {}", hex(e.capacity), hex(e.bytes_moved), hex(e.load_integral))
+    }
+
+    /// What `counts` and `dump` say of a kind.
+    fn tally(&self, kind: usize) -> String {
+        let (submitted, bytes) = (self.sim.submitted()[kind], self.sim.bytes_submitted()[kind]);
+        format!("{submitted} {} {} {}", self.completed[kind], self.cancelled[kind], hex(bytes))
+    }
+
+    fn counts(&self) -> String {
+        let sim = &self.sim;
+        let tables = format!("{} {} {} {}", sim.edges(), sim.in_flight(), sim.uncollected(), sim.peak());
+        format!("counts {tables} {} {} {}", self.tally(0), self.tally(1), self.tally(2))
+    }
+
+    fn dump(&self) -> String {
+        let sim = &self.sim;
+        let next = sim.next_done().map_or("-".to_string(), hex);
+        let mut lines = vec![format!(
+            "dump clock {} stale {} next {next} rounds {} edges {} flight {} queued {} peak {}",
+            hex(sim.now()),
+            u8::from(sim.stale()),
+            self.rounds(),
+            sim.edges(),
+            sim.in_flight(),
+            sim.uncollected(),
+            sim.peak()
+        )];
+        lines.extend((0..3).map(|kind| format!("kind {kind} {}", self.tally(kind))));
+        lines.extend((0..sim.edges()).map(|e| format!("edge {e} {}", self.edge(e))));
+        lines.extend(self.slot_lines());
+        for (owner, id) in sim.queued() {
+            lines.push(format!("queued {} {} {id}", kind(owner), worker(owner)));
+        }
+        lines.push("end".to_string());
+        lines.join("\n")
+    }
+
+    /// By slot; in the common form by id, with `-` for the slot.
+    fn slot_lines(&self) -> Vec<String> {
+        let mut transfers = self.sim.transfers();
+        if self.common {
+            transfers.sort_by_key(|t| t.id);
+        }
+        let line = |t: &copies::TransferView| {
+            let slot = t.slot.filter(|_| !self.common).map_or("-".to_string(), |s| s.to_string());
+            format!(
+                "slot {slot} {} {} {} {} {} {} {} {} {}",
+                t.id,
+                kind(t.owner),
+                worker(t.owner),
+                hex(t.latency),
+                hex(t.bytes),
+                t.cap.map_or("-".to_string(), hex),
+                hex(t.rate),
+                hex(t.last),
+                write_path(&t.path)
+            )
+        };
+        transfers.iter().map(line).collect()
+    }
+}
+
+/// Answers every line of a script.
+pub fn run(session: &mut Session, script: impl BufRead, mut out: impl Write) -> std::io::Result<()> {
+    for line in script.split(b'\n') {
+        let line = String::from_utf8_lossy(&line?).into_owned();
+        if let Some(answer) = session.answer_line(&crate::script::read_line(&line)) {
+            writeln!(out, "{answer}")?;
+        }
+    }
+    out.flush()
+}
+
+/// Finite and at least zero; both zeros pass.
+fn not_below_zero(value: f64) -> bool {
+    value.is_finite() && value >= 0.0
+}
+
+fn cap_in_order(cap: Option<f64>) -> bool {
+    cap.is_none_or(not_below_zero)
+}
+
+fn is_clock_time(time: f64) -> bool {
+    not_below_zero(time) && time <= LATEST
+}
+
+/// Negative zero is read as zero.
+pub fn plus_zero(value: f64) -> f64 {
+    if value == 0.0 { 0.0 } else { value }
+}
+
+fn numbers(path: &[u32]) -> Vec<usize> {
+    path.iter().map(|edge| *edge as usize).collect()
+}
+
+fn value(value: f64) -> String {
+    format!("value {}", hex(value))
+}
+
+fn too_short() -> String {
+    "refused 8".to_string()
+}
+
+/// Writes entries to the front of a lent buffer and reads them back from it; none where they do not fit.
+fn write_list<const N: usize>(entries: &[[u32; N]], places: usize) -> Option<String> {
+    let mut buffer = vec![UNTOUCHED; places];
+    let words = entries.concat();
+    buffer.get_mut(..words.len())?.copy_from_slice(&words);
+    let (written, tail) = buffer.split_at(words.len());
+    let mut text = format!("list {}", entries.len());
+    for word in written {
+        text += &format!(" {word}");
+    }
+    let kept = tail.iter().all(|place| *place == UNTOUCHED);
+    Some(text + if kept { " tail-kept" } else { " tail-changed" })
+}
