@@ -1,1 +1,161 @@
+//! Two programs on one script: the first difference, shrunk to few calls.
 
+use crate::script::{read_line, without_remark, Call, Line};
+use std::fs::File;
+use std::path::PathBuf;
+use std::process::{Command, Stdio};
+use std::time::{Duration, Instant};
+
+/// A program of the session script: a command, and how long one run may take.
+pub struct Program {
+    pub command: String,
+    pub seconds: u64,
+}
+
+/// A sequence on which two programs differ, its last call being the one that shows it.
+pub struct Difference {
+    pub lines: Vec<String>,
+    pub left: Vec<String>,
+    pub right: Vec<String>,
+    /// Where in the whole script the difference was seen first, counted from 1.
+    pub seen_at: usize,
+}
+
+/// The lines of a script that get an answer.
+pub fn calls(script: &str) -> Vec<String> {
+    let answered = |line: &&str| !matches!(read_line(line), Line::Blank);
+    script.lines().filter(answered).map(|line| without_remark(line).to_string()).collect()
+}
+
+/// None where the programs agree on every answer.
+pub fn compare(left: &Program, right: &Program, lines: &[String]) -> Result<Option<Difference>, String> {
+    let Some(at) = first_difference(left, right, lines)? else { return Ok(None) };
+    let start = lines[..at].iter().rposition(|line| is_new(line)).map_or(0, |new| new + 1);
+    let sequence = lines[start..(at + 1).min(lines.len())].to_vec();
+    let alone = differing(left, right, std::slice::from_ref(&sequence))?;
+    // What differs only after earlier sequences is shown whole.
+    let found = match alone {
+        Some(_) => shrink(left, right, sequence)?,
+        None => lines[..(at + 1).min(lines.len())].to_vec(),
+    };
+    let lines: Vec<String> = [vec!["new".to_string()], found].concat();
+    let (left, right) = (left.run(&lines)?, right.run(&lines)?);
+    Ok(Some(Difference { lines, left, right, seen_at: at + 1 }))
+}
+
+fn is_new(line: &str) -> bool {
+    matches!(read_line(line), Line::Call(Call::New))
+}
+
+fn first_difference(left: &Program, right: &Program, lines: &[String]) -> Result<Option<usize>, String> {
+    let (a, b) = (left.run(lines)?, right.run(lines)?);
+    // A missing or an extra answer is a difference too.
+    Ok((0..a.len().max(b.len()).max(lines.len())).find(|i| a.get(*i) != b.get(*i) || a.get(*i).is_none()))
+}
+
+/// Takes out parts, then smaller parts, as long as the rest still differs.
+fn shrink(left: &Program, right: &Program, mut sequence: Vec<String>) -> Result<Vec<String>, String> {
+    let mut parts = 2;
+    while sequence.len() > 1 {
+        let size = sequence.len().div_ceil(parts);
+        let without = |part: usize| {
+            let gone = part * size..(part + 1) * size;
+            sequence.iter().enumerate().filter(|(i, _)| !gone.contains(i)).map(|(_, line)| line.clone()).collect()
+        };
+        let candidates: Vec<Vec<String>> = (0..sequence.len().div_ceil(size)).map(without).collect();
+        match differing(left, right, &candidates)? {
+            Some(found) => {
+                sequence = candidates[found].clone();
+                parts = parts.saturating_sub(1).max(2);
+            }
+            None if size == 1 => break,
+            None => parts = (2 * parts).min(sequence.len()),
+        }
+    }
+    Ok(sequence)
+}
+
+/// The first candidate on which the programs differ. All are tried in one run, since a program may be slow to start.
+fn differing(left: &Program, right: &Program, candidates: &[Vec<String>]) -> Result<Option<usize>, String> {
+    let script: Vec<String> = candidates.iter().flat_map(|lines| with_new(lines)).collect();
+    let (a, b) = (left.run(&script)?, right.run(&script)?);
+    if candidates.len() > 1 && (a.len() != script.len() || b.len() != script.len()) {
+        // One broke off: each has to show its own end.
+        for (i, candidate) in candidates.iter().enumerate() {
+            if differing(left, right, std::slice::from_ref(candidate))?.is_some() {
+                return Ok(Some(i));
+            }
+        }
+        return Ok(None);
+    }
+    let mut start = 0;
+    for (i, candidate) in candidates.iter().enumerate() {
+        let end = start + candidate.len() + 1;
+        if (start..end).any(|k| a.get(k) != b.get(k)) {
+            return Ok(Some(i));
+        }
+        start = end;
+    }
+    Ok(None)
+}
+
+fn with_new(lines: &[String]) -> Vec<String> {
+    [&["new".to_string()], lines].concat()
+}
+
+impl Program {
+    /// The answers to a script, remarks cut off; a dump is one answer.
+    pub fn run(&self, lines: &[String]) -> Result<Vec<String>, String> {
+        let script = Scratch::new("script");
+        let output = Scratch::new("output");
+        let trouble = |e: std::io::Error| format!("{}: {e}", self.command);
+        std::fs::write(&script.0, lines.join("\n") + "\n").map_err(trouble)?;
+        let mut child = Command::new("sh")
+            .args(["-c", &self.command])
+            .stdin(Stdio::from(File::open(&script.0).map_err(trouble)?))
+            .stdout(Stdio::from(File::create(&output.0).map_err(trouble)?))
+            .spawn()
+            .map_err(trouble)?;
+        let end = Instant::now() + Duration::from_secs(self.seconds);
+        while child.try_wait().map_err(trouble)?.is_none() {
+            if Instant::now() > end {
+                child.kill().and_then(|_| child.wait()).map_err(trouble)?;
+                break;
+            }
+            std::thread::sleep(Duration::from_millis(2));
+        }
+        let text = std::fs::read(&output.0).map_err(trouble)?;
+        Ok(answers(&String::from_utf8_lossy(&text)))
+    }
+}
+
+fn answers(output: &str) -> Vec<String> {
+    let mut answers: Vec<String> = Vec::new();
+    let mut inside_dump = false;
+    for line in output.lines().map(without_remark).filter(|line| !line.is_empty()) {
+        match answers.last_mut() {
+            Some(dump) if inside_dump => *dump += &format!("\n{line}"),
+            _ => answers.push(line.to_string()),
+        }
+        inside_dump = (inside_dump || line.starts_with("dump ")) && line != "end";
+    }
+    answers
+}
+
+/// A file that goes when it is no longer needed.
+struct Scratch(PathBuf);
+
+impl Scratch {
+    fn new(name: &str) -> Scratch {
+        use std::sync::atomic::{AtomicU64, Ordering};
+        static COUNT: AtomicU64 = AtomicU64::new(0);
+        let count = COUNT.fetch_add(1, Ordering::Relaxed);
+        Scratch(std::env::temp_dir().join(format!("compare-{}-{count}-{name}", std::process::id())))
+    }
+}
+
+impl Drop for Scratch {
+    fn drop(&mut self) {
+        let _ = std::fs::remove_file(&self.0);
+    }
+}

@@ -90,13 +90,24 @@ const KINDS: [Kind; 18] = [
 ];
 
 const USUAL: [usize; 18] = [44, 40, 10, 6, 4, 8, 5, 14, 10, 9, 5, 11, 7, 4, 3, 7, 5, 4];
+/// More submissions than completions.
+const BUSY: [usize; 18] = [90, 30, 10, 6, 4, 8, 5, 12, 10, 9, 5, 11, 7, 4, 3, 7, 5, 4];
 /// Many submissions, few completions, and dumps seldom, for they are long.
 const CROWDED: [usize; 18] = [400, 60, 12, 4, 4, 10, 8, 16, 12, 8, 5, 14, 8, 8, 4, 8, 6, 2];
 
-const WHOLE_CAPACITIES: [f64; 16] =
-    [1.0, 2.0, 3.0, 4.0, 5.0, 6.0, 8.0, 10.0, 12.0, 12.0, 24.0, 24.0, 60.0, 60.0, 120.0, 840.0];
-const WHOLE_CAPS: [f64; 10] = [0.0, 1.0, 2.0, 2.0, 3.0, 4.0, 5.0, 6.0, 10.0, 12.0];
-const WHOLE_BYTES: [u64; 14] = [0, 1, 2, 4, 6, 8, 10, 12, 24, 60, 100, 120, 240, 2520];
+/// Small numbers, and beside them numbers with many divisors: more of their shares come out whole.
+const WHOLE_CAPACITIES: [&[f64]; 2] = [
+    &[0.0, 1.0, 2.0, 3.0, 4.0, 5.0, 6.0, 8.0, 10.0, 12.0, 12.0, 24.0, 60.0],
+    &[120.0, 420.0, 840.0, 840.0, 1680.0, 2520.0, 2520.0, 5040.0, 10080.0],
+];
+const WHOLE_CAPS: [&[f64]; 2] = [
+    &[0.0, 1.0, 2.0, 2.0, 3.0, 4.0, 5.0, 6.0, 10.0, 12.0],
+    &[0.0, 60.0, 70.0, 84.0, 105.0, 105.0, 120.0, 140.0, 168.0, 210.0, 280.0, 420.0, 840.0],
+];
+const WHOLE_BYTES: [&[u64]; 2] = [
+    &[0, 1, 2, 4, 6, 8, 10, 12, 24, 60, 100, 120, 240],
+    &[0, 840, 1680, 2520, 2520, 5040, 7560, 10080, 25200, 40320, 2520 << 10, 5040 << 20],
+];
 const WHOLE_LATENCIES: [f64; 9] = [0.0, 0.0, 0.0, 0.0, 1.0, 2.0, 5.0, 0.5, -1.0];
 const WHOLE_STEPS: [f64; 8] = [0.25, 0.5, 1.0, 1.0, 2.0, 3.0, 5.0, 10.0];
 const SPECIAL: [u64; 22] = [
@@ -134,6 +145,8 @@ struct Generator {
     judge: Judge,
     /// The number that a sequence of ties is built on.
     base: f64,
+    /// Which of the two lists a sequence of whole numbers takes.
+    list: usize,
 }
 
 impl Generator {
@@ -145,6 +158,7 @@ impl Generator {
             session: Session::new(copies::patched, false),
             judge: Judge::default(),
             base: 1.0,
+            list: 0,
         }
     }
 
@@ -159,6 +173,7 @@ impl Generator {
         let length = self.random.between(short, long).min(room);
         let start = self.lines.len();
         self.base = self.random.magnitude(-3, 20);
+        self.list = usize::from(self.random.chance(65));
         self.emit(Call::New.to_string());
         for _ in 0..self.random.between(0, 4) {
             let call = self.add_edge();
@@ -175,11 +190,15 @@ impl Generator {
 
     /// One line more.
     fn step(&mut self) {
-        if self.profile == Profile::Wrong && self.random.chance(50) {
+        if self.profile == Profile::Wrong && self.random.chance(60) {
             let line = self.wrong_line();
             return self.emit(line);
         }
-        let weights = if self.profile == Profile::Crowd { CROWDED } else { USUAL };
+        let weights = match self.profile {
+            Profile::Crowd => CROWDED,
+            Profile::Whole | Profile::Ties => BUSY,
+            _ => USUAL,
+        };
         for _ in 0..12 {
             let kind = KINDS[self.random.weighted(&weights)];
             let call = self.call(kind);
@@ -275,7 +294,7 @@ impl Generator {
 
     fn capacity(&mut self) -> f64 {
         match self.profile {
-            Profile::Whole => *self.random.pick(&WHOLE_CAPACITIES),
+            Profile::Whole => *self.random.pick(WHOLE_CAPACITIES[self.list]),
             Profile::Wild => self.wild_positive(),
             Profile::Plans => self.random.pick(&[50.0, 125.0, 550.0, 1000.0, 2400.0, 5500.0, 0.0]) * 1e6,
             Profile::Crowd => self.random.magnitude(0, 20),
@@ -290,7 +309,7 @@ impl Generator {
             return None;
         }
         Some(match self.profile {
-            Profile::Whole => *self.random.pick(&WHOLE_CAPS),
+            Profile::Whole => *self.random.pick(WHOLE_CAPS[self.list]),
             Profile::Wild => self.wild_positive(),
             Profile::Plans => self.random.between(0, 40) as f64 * 12.5e6,
             Profile::Crowd => self.random.magnitude(-6, 16),
@@ -323,14 +342,14 @@ impl Generator {
         }
         match self.profile {
             Profile::Wild => self.wild(),
-            Profile::Whole => *self.random.pick(&[0.0, 1.0, 2.0, 12.0, 60.0, -1.0]),
+            Profile::Whole => *self.random.pick(&[0.0, 1.0, 2.0, 12.0, 60.0, 420.0, 840.0, -1.0]),
             _ => if self.random.chance(20) { 0.0 } else { self.capacity() },
         }
     }
 
     fn bytes(&mut self) -> u64 {
         match self.profile {
-            Profile::Whole => *self.random.pick(&WHOLE_BYTES),
+            Profile::Whole => *self.random.pick(WHOLE_BYTES[self.list]),
             Profile::Wild => match self.random.below(6) {
                 0 => *self.random.pick(&[0, 1, 2, (1 << 53) - 1, 1 << 53, (1 << 53) + 1, u64::MAX]),
                 _ => self.random.bits() >> self.random.between(11, 63),
@@ -489,10 +508,12 @@ impl Generator {
 
     /// A line that is refused, unknown or malformed, or nearly so.
     fn wrong_line(&mut self) -> String {
-        if self.random.chance(15) {
+        let kind = KINDS[self.random.weighted(&USUAL)];
+        // A call without arguments can only be misspelt.
+        let bare = matches!(kind, Kind::Delay | Kind::Rounds | Kind::Now | Kind::Counts | Kind::Dump);
+        if bare || self.random.chance(5) {
             return self.malformed();
         }
-        let kind = KINDS[self.random.weighted(&USUAL)];
         let mut call = self.call(kind);
         let causes = if self.random.chance(30) { 2 } else { 1 };
         for _ in 0..causes {

@@ -1,0 +1,47 @@
+//! compare [--seconds N] LEFT RIGHT SCRIPT: two commands on one script.
+//! Ends with 0 where every answer is the same, 1 with a shrunk sequence where not, 2 where something could not be run.
+
+use tools::compare::{calls, compare, Difference, Program};
+use tools::give_up;
+
+fn main() {
+    let mut words: Vec<String> = std::env::args().skip(1).collect();
+    let mut seconds = 600;
+    if words.first().is_some_and(|word| word == "--seconds") {
+        seconds = words.get(1).and_then(|n| n.parse().ok()).unwrap_or_else(|| give_up("compare: --seconds takes a number"));
+        words.drain(..2);
+    }
+    let [left, right, file] = words.as_slice() else {
+        give_up("usage: compare [--seconds N] LEFT RIGHT SCRIPT");
+    };
+    let text = std::fs::read(file).unwrap_or_else(|e| give_up(&format!("compare: {file}: {e}")));
+    let lines = calls(&String::from_utf8_lossy(&text));
+    let program = |command: &String| Program { command: command.clone(), seconds };
+    match compare(&program(left), &program(right), &lines) {
+        Err(why) => give_up(&format!("compare: {why}")),
+        Ok(None) => println!("same: {} calls", lines.len()),
+        Ok(Some(difference)) => {
+            show(&difference, left, right);
+            std::process::exit(1);
+        }
+    }
+}
+
+fn show(difference: &Difference, left: &str, right: &str) {
+    println!("different: call {} of the script; shrunk to {} calls", difference.seen_at, difference.lines.len());
+    for (i, line) in difference.lines.iter().enumerate() {
+        println!("{line}");
+        let none = "(no answer)".to_string();
+        let a = difference.left.get(i).unwrap_or(&none);
+        let b = difference.right.get(i).unwrap_or(&none);
+        if a == b && a != &none {
+            continue;
+        }
+        println!("    # {left}:\n{}\n    # {right}:\n{}", indented(a), indented(b));
+    }
+}
+
+/// As remarks, so that what is printed can be run again.
+fn indented(answer: &str) -> String {
+    answer.lines().map(|line| format!("    #   {line}")).collect::<Vec<_>>().join("\n")
+}
