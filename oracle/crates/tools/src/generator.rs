@@ -299,7 +299,7 @@ impl Generator {
             Profile::Plans => self.random.pick(&[50.0, 125.0, 550.0, 1000.0, 2400.0, 5500.0, 0.0]) * 1e6,
             Profile::Crowd => self.random.magnitude(0, 20),
             Profile::Wrong => self.random.pick(&[0.0, 1.0, 10.0, 12.5, 1e9]) * 1.0,
-            Profile::Ties => self.base * *self.random.pick(&[1.0, 2.0, 3.0, 3.0, 4.0, 6.0, 7.0, 12.0]),
+            Profile::Ties => self.tied_capacity(),
         }
     }
 
@@ -316,6 +316,15 @@ impl Generator {
             Profile::Wrong => self.random.below(12) as f64,
             Profile::Ties => self.tied_cap(),
         })
+    }
+
+    /// A few times the base, or up to three steps above.
+    fn tied_capacity(&mut self) -> f64 {
+        let mut capacity = self.base * *self.random.pick(&[1.0, 2.0, 3.0, 3.0, 4.0, 6.0, 7.0, 12.0, 14.0, 15.0, 21.0]);
+        if self.random.chance(40) {
+            (0..self.random.between(1, 3)).for_each(|_| capacity = capacity.next_up());
+        }
+        capacity
     }
 
     /// The base, a share of some capacity, or its neighbour.
@@ -495,6 +504,10 @@ impl Generator {
             18 => self.random.between(5, 8),
             _ => if self.profile == Profile::Whole { 3 } else { self.random.between(7, 9) },
         };
+        if self.profile == Profile::Ties && self.random.chance(15) {
+            // One edge many times: here the order of equal caps can show.
+            return vec![self.random.below(edges) as u32; self.random.between(2, 8)];
+        }
         let few = edges.min(6);
         let first = self.random.below(edges - few + 1);
         (0..length).map(|_| (first + self.random.below(few)) as u32).collect()

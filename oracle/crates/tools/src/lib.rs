@@ -1,6 +1,7 @@
 //! The session script, the layer that answers it over a copy of flows.rs, and what feeds and compares programs.
 
 pub mod compare;
+pub mod directed;
 pub mod exact;
 pub mod generator;
 pub mod random;
