@@ -1,0 +1,16 @@
+pub mod Answers
+pub mod Tests
+pub mod Closest
+pub mod Units
+pub mod Fields
+pub mod Ordered
+pub mod Rounded
+pub mod Same
+pub mod Quotient
+pub mod Difference
+pub mod Left
+pub mod Signs
+pub mod Chosen
+pub mod Zeros
+pub mod Bits
+pub mod Binary64

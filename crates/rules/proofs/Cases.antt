@@ -1,0 +1,30 @@
+-- The cases hold: the definitions, computed on the fresh simulator, give what each table says. Assumes nothing.
+use mathlib.Core.Path.{_≡_, refl}
+use mathlib.Core.Bool.{true}
+use Rattle.rules.specs.Cases.{CasesHold, holds, vault-door, collection, edge-limit, both-sides, lowest-first}
+use Rattle.rules.proofs.Everything.{everything}
+
+-- the twelve that are marked
+pub cases-hold : CasesHold
+unfolding everything
+cases-hold = refl
+
+pub vault-door-holds : holds vault-door ≡ true
+unfolding everything
+vault-door-holds = refl
+
+pub collection-holds : holds collection ≡ true
+unfolding everything
+collection-holds = refl
+
+pub edge-limit-holds : holds edge-limit ≡ true
+unfolding everything
+edge-limit-holds = refl
+
+pub both-sides-holds : holds both-sides ≡ true
+unfolding everything
+both-sides-holds = refl
+
+pub lowest-first-holds : holds lowest-first ≡ true
+unfolding everything
+lowest-first-holds = refl

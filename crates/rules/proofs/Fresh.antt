@@ -1,0 +1,77 @@
+-- The fresh simulator keeps the invariant. Assumes nothing.
+use mathlib.Core.Path.{_≡_, refl}
+use mathlib.Core.Bool.{true, false}
+use Prim.Native.Nat.{ℕ, _≤_, _<_}
+use native.Mathlib.Omega.{arith}
+use lib.ListN.{getD, replicate}
+use lib.Ieee.{Float}
+use Rattle.doubles.specs.Doubles.{nought, Plain, Nonneg}
+use Rattle.rules.specs.declared.Owner.{Owner}
+use Rattle.rules.specs.declared.Owner.the-variants.{Worker, Handoff, Write}
+use Rattle.rules.specs.declared.Edge.{Edge}
+use Rattle.rules.specs.declared.Transfer.{Transfer}
+use Rattle.rules.specs.declared.Completion.{Completion}
+use Rattle.rules.specs.Records.{fresh, free, no-edge, no-completion, no-tally, tally-of}
+use Rattle.rules.specs.Invariant.{Invariant, Summed, SoundEdge, SoundSlot, Balanced, nobody}
+use Rattle.rules.proofs.Everything.{everything}
+use Rattle.rules.proofs.Each.{each-same}
+
+-- ---- blanks are sound
+
+pub nought-plain : Plain nought
+unfolding everything
+nought-plain = record { is-plain = tt; is-held = tt }
+
+pub nought-summed : Summed nought
+unfolding everything
+nought-summed = record { plain = nought-plain; stalled = tt }
+
+pub no-edge-sound : SoundEdge no-edge
+no-edge-sound = record { capacity = nought-plain; moved = nought-summed; busy = nought-summed }
+
+-- no blank is taken, whatever the place
+free-at : (i : ℕ) → getD (replicate 256 free) i free ≡ free
+free-at = each-same (λ (t : Transfer). t ≡ free) free 256 free refl refl
+
+untaken : {X : Type 0} (i : ℕ) → getD (replicate 256 free) i free .taken ≡ true → X
+untaken i e =
+    let f : false ≡ true = rw (free-at i) at e in
+    let z : _≡_ {A = ℕ} 0 1 = cc in
+    absurd (omega (arith, z))
+
+free-sound : SoundSlot fresh free
+free-sound = record { held = λ e. absurd (let z : _≡_ {A = ℕ} 0 1 = cc in omega (arith, z)); blank = λ e. refl }
+
+none-balanced : (owner : Owner) → Balanced (fresh .«in_flight») owner (tally-of owner (fresh .totals))
+unfolding everything
+none-balanced (Worker n) = record { accounted = refl; fits = omega arith; bytes = nought-summed }
+none-balanced Handoff = record { accounted = refl; fits = omega arith; bytes = nought-summed }
+none-balanced Write = record { accounted = refl; fits = omega arith; bytes = nought-summed }
+
+pub fresh-keeps : Invariant fresh
+unfolding everything
+fresh-keeps = record {
+  edge-places = refl;
+  slot-places = refl;
+  queue-places = refl;
+  clock = record { plain = nought-plain; bounded = tt };
+  next-done = nobody;
+  tolerance = refl;
+  few-edges = omega arith;
+  edges = each-same SoundEdge no-edge 64 no-edge no-edge-sound no-edge-sound;
+  edges-blank = λ e h. each-same (λ (x : Edge). x ≡ no-edge) no-edge 64 no-edge refl refl e;
+  slots = each-same (SoundSlot fresh) free 256 free free-sound free-sound;
+  ids-differ = λ i j a b e. untaken i a;
+  drained-together = λ i j a b. untaken i a;
+  stale-drained = λ e. absurd (let z : _≡_ {A = ℕ} 0 1 = cc in omega (arith, z));
+  path-room = omega arith;
+  queue-ordered = λ i j a b. absurd (omega arith);
+  queue-blank = λ i h. each-same (λ (x : Completion). x ≡ no-completion) no-completion 256 no-completion refl refl i;
+  room = omega arith;
+  peak-reached = omega arith;
+  peak-bound = omega arith;
+  balanced = none-balanced;
+  load-right = λ e. refl;
+  few-rounds = λ e. omega arith;
+  rounds-bound = omega arith;
+}

@@ -1,0 +1,116 @@
+-- Bringing rates up to date, and draining to a time. (01, Clock) Definitions only.
+use Prim.Native.Nat.{ℕ, zero, suc}
+use mathlib.Core.Bool.{Bool, true, false, _&&_, cond}
+use mathlib.Core.List.{List, [], _∷_, map, foldl}
+use lib.Ieee.{Float}
+use Rattle.doubles.specs.Doubles.{_⊕_, _⊖_, _⊗_, _≺_, nought, smaller, whole}
+use Rattle.rules.specs.declared.Delay.{Delay}
+use Rattle.rules.specs.declared.Delay.the-variants.{After, Never}
+use Rattle.rules.specs.declared.NextDone.{NextDone}
+use Rattle.rules.specs.declared.NextDone.the-variants.{At, Nobody}
+use Rattle.rules.specs.declared.Edge.{Edge}
+use Rattle.rules.specs.declared.EdgeLoad.{EdgeLoad}
+use Rattle.rules.specs.declared.Transfer.{Transfer}
+use Rattle.rules.specs.declared.Flows.{Flows}
+use Rattle.rules.specs.Lists.{at-each-crossing, map-from}
+use Rattle.rules.specs.Records.{path-of, counts-in-loads, crossings-by, with-edges, with-in-flight, with-edge-load, with-clock, at-time}
+use Rattle.rules.specs.Done.{done-eps, time-to-done, sooner}
+use Rattle.rules.specs.Filling.{Filling, recompute-rates}
+
+-- ---- bring up to date
+
+-- The smallest time to done of all in flight.
+unfoldable pub soonest : Float → List Transfer → Delay
+soonest eps slots = foldl (λ d t. cond (t .taken) (sooner d (time-to-done eps t)) d) Never slots
+
+-- The clock time that lies a delay ahead.
+unfoldable pub ahead : Float → Delay → NextDone
+ahead now Never = Nobody
+ahead now (After d) = At (now ⊕ d)
+
+-- The crossings of each edge by all in flight, and how many edges there are.
+unfoldable pub edge-loads : Flows → EdgeLoad
+edge-loads f = record { load = map-from 0 (λ e edge. crossings-by counts-in-loads (path-of f) (f .«in_flight») e) (f .edges); len = f .«num_edges» }
+
+-- The simulator with rates as a filling gave them, and what follows from them.
+unfoldable pub with-rates : Filling → Flows → Flows
+with-rates filling f =
+    let g = with-edge-load (edge-loads f) (with-in-flight (map (λ s. s .transfer) (filling .seats)) f) in
+    with-clock (record {
+      now = f .clock .now;
+      «rates_dirty» = false;
+      «next_done_at» = ahead (f .clock .now) (soonest (done-eps f) (g .«in_flight»));
+      rounds = filling .rounds;
+    }) g
+
+-- Rates brought up to date: a filling where they are stale, and otherwise nothing.
+unfoldable pub ensure-rates : Flows → Flows
+ensure-rates f = cond (f .clock .«rates_dirty») (with-rates (recompute-rates (path-of f) (f .edges) (f .«in_flight»)) f) f
+
+-- ---- one transfer drained to the time T
+
+-- What the latency takes of the time since the transfer's last drain.
+unfoldable pub latency-paid : Float → Transfer → Float
+latency-paid T t = smaller (t .«latency_remaining») (T ⊖ t .«last_update»)
+
+-- The time that is left for bytes to flow.
+unfoldable pub flowing-time : Float → Transfer → Float
+flowing-time T t = T ⊖ t .«last_update» ⊖ latency-paid T t
+
+-- Whether the transfer moves bytes in the drain.
+unfoldable pub moves : Float → Transfer → Bool
+moves T t = t .taken && (nought ≺ flowing-time T t && (nought ≺ t .rate && nought ≺ t .«bytes_remaining»))
+
+-- The bytes that flow in that time, no more than are left.
+unfoldable pub bytes-flowing : Float → Transfer → Float
+bytes-flowing T t = smaller (t .rate ⊗ flowing-time T t) (t .«bytes_remaining»)
+
+-- The transfer after the drain; a free slot stays as it is.
+unfoldable pub drained : Float → Transfer → Transfer
+drained T t =
+    cond (t .taken)
+    (record {
+      taken = t .taken;
+      id = t .id;
+      owner = t .owner;
+      path = t .path;
+      «latency_remaining» = t .«latency_remaining» ⊖ latency-paid T t;
+      «bytes_remaining» = cond (moves T t) (t .«bytes_remaining» ⊖ bytes-flowing T t) (t .«bytes_remaining»);
+      «rate_cap» = t .«rate_cap»;
+      rate = t .rate;
+      «last_update» = T;
+    })
+    t
+
+-- ---- the edges
+
+unfoldable pub gain-moved : Float → Edge → Edge
+gain-moved moved e = record { capacity = e .capacity; «bytes_moved» = e .«bytes_moved» ⊕ moved; «busy_transfer_seconds» = e .«busy_transfer_seconds» }
+
+-- What a transfer moves is added to the edges on its path, once for each crossing.
+unfoldable pub deliver : (Transfer → List ℕ) → Float → List Edge → Transfer → List Edge
+deliver path T edges t = cond (moves T t) (at-each-crossing (path t) (gain-moved (bytes-flowing T t)) edges) edges
+
+-- The load integral of an edge with some crossings grows by crossings times the time that passed; of another it stays.
+unfoldable pub gain-busy : Float → ℕ → Edge → Edge
+gain-busy dt zero e = e
+gain-busy dt (suc n) e = record { capacity = e .capacity; «bytes_moved» = e .«bytes_moved»; «busy_transfer_seconds» = e .«busy_transfer_seconds» ⊕ whole (suc n) ⊗ dt }
+
+-- ---- the simulator
+
+-- Time passes to T: load integrals grow by the crossings of all in flight, and the clock moves.
+unfoldable pub pass-time : Float → Flows → Flows
+pass-time T f =
+    let dt = T ⊖ f .clock .now in
+    let busy = map-from 0 (λ e edge. gain-busy dt (crossings-by counts-in-loads (path-of f) (f .«in_flight») e) edge) (f .edges) in
+    at-time T (cond (nought ≺ dt) (with-edges busy (f .«num_edges») f) f)
+
+-- All slots drained to T, in order, and the edges credited.
+unfoldable pub drain-slots : Float → Flows → Flows
+drain-slots T f =
+    with-in-flight (map (drained T) (f .«in_flight»))
+    (with-edges (foldl (deliver (path-of f) T) (f .edges) (f .«in_flight»)) (f .«num_edges») f)
+
+-- Drain to T: rates first, where T is past the clock; then the slots; then time passes.
+unfoldable pub drain-to : Float → Flows → Flows
+drain-to T f = pass-time T (drain-slots T (cond (f .clock .now ≺ T) (ensure-rates f) f))

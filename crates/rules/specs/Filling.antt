@@ -1,0 +1,148 @@
+-- Max-min fair rates by progressive filling. (01, Filling) Definitions only.
+-- A seat is a slot during the filling: unfrozen while a round has yet to give its transfer a rate.
+use Prim.Native.Nat.{ℕ, zero, suc}
+use mathlib.Core.Bool.{Bool, true, false, _&&_, cond}
+use mathlib.Core.List.{List, [], _∷_, map, foldl}
+use lib.Dec.{eqb}
+use lib.Ieee.{Float}
+use Rattle.doubles.specs.Doubles.{_⊖_, _⊘_, _≺_, nought, infinity, larger, whole}
+use Rattle.rules.specs.declared.Cap.{Cap}
+use Rattle.rules.specs.declared.Cap.the-variants.{AtMost, Uncapped}
+use Rattle.rules.specs.declared.Edge.{Edge}
+use Rattle.rules.specs.declared.Transfer.{Transfer}
+use Rattle.rules.specs.declared.Seat.{Seat}
+use Rattle.rules.specs.declared.Best.{Best}
+use Rattle.rules.specs.declared.Best.the-variants.{At, Nobody}
+use Rattle.rules.specs.declared.Verdict.{Verdict}
+use Rattle.rules.specs.declared.Verdict.the-variants.{ByCap, ByEdge, ByNobody}
+use Rattle.rules.specs.Lists.{count, any, times, map-from, sum, crossings}
+use Rattle.rules.specs.Records.{takes-part}
+
+-- A filling under way: the slots, what is left of each edge's capacity, and the rounds so far.
+pub record Filling : Type 0 where
+  pub seats : List Seat
+  pub residual : List Float
+  pub rounds : ℕ
+
+-- ---- the smallest of some candidates
+
+-- The first of two, unless the second is strictly smaller.
+unfoldable pub tighter : Best → Best → Best
+tighter Nobody b = b
+tighter (At i x) Nobody = At i x
+tighter (At i x) (At j y) = cond (y ≺ x) (At j y) (At i x)
+
+-- The smallest of some candidates, and at equality the earliest.
+unfoldable pub tightest : List Best → Best
+tightest candidates = foldl tighter Nobody candidates
+
+-- ---- who takes part
+
+unfoldable pub with-rate : Float → Transfer → Transfer
+with-rate rate t = record { taken = t .taken; id = t .id; owner = t .owner; path = t .path; «latency_remaining» = t .«latency_remaining»; «bytes_remaining» = t .«bytes_remaining»; «rate_cap» = t .«rate_cap»; rate = rate; «last_update» = t .«last_update» }
+
+-- The rate of a transfer that shares no edge: its cap, or no limit at all.
+unfoldable pub lone-rate : Cap → Float
+lone-rate (AtMost c) = c
+lone-rate Uncapped = infinity
+
+-- A transfer that takes part starts unfrozen, unless its path is empty and its rate is known at once.
+unfoldable pub entered : List ℕ → Transfer → Seat
+entered [] t = record { transfer = with-rate (lone-rate (t .«rate_cap»)) t; unfrozen = false }
+entered (e ∷ path) t = record { transfer = t; unfrozen = true }
+
+module _ (path : Transfer → List ℕ) where
+  -- A slot as the filling begins: who takes no part keeps the rate it had.
+  unfoldable pub seat : Transfer → Seat
+  seat t = cond (takes-part t) (entered (path t) t) (record { transfer = t; unfrozen = false })
+
+  -- The filling as it begins: all of each capacity is left.
+  unfoldable pub start : List Edge → List Transfer → Filling
+  start edges slots = record { seats = map seat slots; residual = map (λ e. e .capacity) edges; rounds = 0 }
+
+  -- ---- a round: what it decides
+
+  -- An edge's load: its crossings by unfrozen transfers, repeats counted.
+  unfoldable pub load : List Seat → ℕ → ℕ
+  load seats e = sum (map (λ s. cond (s .unfrozen) (crossings e (path (s .transfer))) 0) seats)
+
+  -- The share of edge e: what is left of its capacity over its load, if it has one.
+  unfoldable pub share : ℕ → Float → ℕ → Best
+  share e residual zero = Nobody
+  share e residual (suc n) = At e (residual ⊘ whole (suc n))
+
+  -- The edge with the smallest share, the lowest number at equality.
+  unfoldable pub winning-edge : Filling → Best
+  winning-edge f = tightest (map-from 0 (λ e r. share e r (load (f .seats) e)) (f .residual))
+
+  -- The cap of the transfer in slot i, if it is unfrozen and has one.
+  unfoldable pub own-cap : ℕ → Bool → Cap → Best
+  own-cap i false cap = Nobody
+  own-cap i true Uncapped = Nobody
+  own-cap i true (AtMost c) = At i c
+
+  -- The smallest cap among the unfrozen, the lowest slot at equality.
+  unfoldable pub smallest-cap : Filling → Best
+  smallest-cap f = tightest (map-from 0 (λ i s. own-cap i (s .unfrozen) (s .transfer .«rate_cap»)) (f .seats))
+
+  -- The smallest cap wins over the smallest share only where it is strictly below it.
+  unfoldable pub verdict : Best → Best → Verdict
+  verdict Nobody Nobody = ByNobody
+  verdict Nobody (At e x) = ByEdge e x
+  verdict (At i c) Nobody = ByCap i c
+  verdict (At i c) (At e x) = cond (c ≺ x) (ByCap i c) (ByEdge e x)
+
+  -- ---- a round: what it does
+
+  -- The rate that a verdict gives.
+  unfoldable pub rate-by : Verdict → Float
+  rate-by (ByCap i c) = c
+  rate-by (ByEdge e x) = x
+  rate-by ByNobody = nought
+
+  -- Whether a verdict names the transfer in slot i on that path: the slot itself, or all that cross the edge.
+  unfoldable pub names : Verdict → ℕ → List ℕ → Bool
+  names (ByCap j c) i p = eqb i j
+  names (ByEdge e x) i p = any (eqb e) p
+  names ByNobody i p = false
+
+  -- Whether a verdict freezes the seat in slot i.
+  unfoldable pub freezes : Verdict → ℕ → Seat → Bool
+  freezes v i s = s .unfrozen && names v i (path (s .transfer))
+
+  -- A seat after the verdict: frozen at its rate, or as it was.
+  unfoldable pub freeze : Verdict → ℕ → Seat → Seat
+  freeze v i s = cond (freezes v i s) (record { transfer = with-rate (rate-by v) (s .transfer); unfrozen = false }) s
+
+  -- The crossings of edge e by those that the verdict freezes.
+  unfoldable pub crossings-frozen : Verdict → List Seat → ℕ → ℕ
+  crossings-frozen v seats e = sum (map-from 0 (λ i s. cond (freezes v i s) (crossings e (path (s .transfer))) 0) seats)
+
+  -- What one crossing at a rate leaves of an edge, never below 0.
+  unfoldable pub spend : Float → Float → Float
+  spend rate residual = larger (residual ⊖ rate) nought
+
+  -- One round: the verdict, those it names frozen, and each edge less their rate once for each of their crossings.
+  unfoldable pub round : Filling → Filling
+  round f =
+      let v = verdict (smallest-cap f) (winning-edge f) in
+      record {
+        seats = map-from 0 (freeze v) (f .seats);
+        residual = map-from 0 (λ e r. times (crossings-frozen v (f .seats) e) (spend (rate-by v)) r) (f .residual);
+        rounds = suc (f .rounds);
+      }
+
+  -- ---- the rounds
+
+  -- How many have yet to be frozen.
+  unfoldable pub num-unfrozen : Filling → ℕ
+  num-unfrozen f = count (λ s. s .unfrozen) (f .seats)
+
+  -- Rounds until none is unfrozen, n of them at the most.
+  unfoldable pub rounds-until : ℕ → Filling → Filling
+  rounds-until zero f = f
+  rounds-until (suc n) f = let more = rounds-until n (round f) in cond (eqb (num-unfrozen f) 0) f more
+
+  -- The whole filling. Each round freezes somebody, so one round for each of them is enough.
+  unfoldable pub recompute-rates : List Edge → List Transfer → Filling
+  recompute-rates edges slots = let f = start edges slots in rounds-until (num-unfrozen f) f

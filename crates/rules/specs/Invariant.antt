@@ -1,0 +1,124 @@
+-- The invariant of a simulator: what holds at the start and after every call. It is the one premise of any contract. Statements only.
+use Prim.Native.Nat.{ℕ, _+_, _^_, _≤_, _<_}
+use mathlib.Core.Path.{_≡_}
+use mathlib.Core.Logic.{_⊎_}
+use mathlib.Core.Bool.{Bool, true, false, _&&_}
+use mathlib.Core.List.{List, map}
+use lib.Dec.{T, eqb, ltb}
+use lib.ListN.{length, getD}
+use lib.Ieee.{Float}
+use Rattle.doubles.specs.Doubles.{_≼_, whole, Plain, Nonneg}
+use Rattle.rules.specs.declared.Owner.{Owner}
+use Rattle.rules.specs.declared.Cap.{Cap}
+use Rattle.rules.specs.declared.Cap.the-variants.{AtMost, Uncapped}
+use Rattle.rules.specs.declared.NextDone.{NextDone}
+use Rattle.rules.specs.declared.NextDone.the-variants.{At, Nobody}
+use Rattle.rules.specs.declared.Edge.{Edge}
+use Rattle.rules.specs.declared.Route.{Route}
+use Rattle.rules.specs.declared.Transfer.{Transfer}
+use Rattle.rules.specs.declared.Tally.{Tally}
+use Rattle.rules.specs.declared.Clock.{Clock}
+use Rattle.rules.specs.declared.Flows.{Flows}
+use Rattle.rules.specs.Lists.{count, sum, Each}
+use Rattle.rules.specs.Tolerance.{default-tolerance}
+use Rattle.rules.specs.Records.{max-edges, max-path, max-slots, no-edge, free, no-completion, path-of, num-in-flight, before, owner-kind, tally-of}
+use Rattle.rules.specs.Clock.{edge-loads}
+
+-- ---- doubles
+
+-- A running sum of amounts up to 2^53: it stalls at 2^107, where adding such an amount no longer changes it.
+pub record Summed (x : Float) : Type 0 where
+  pub plain : Plain x
+  pub stalled : T (x ≼ whole (2 ^ 107))
+
+-- A clock time, from 0 to 2^40 seconds.
+pub record ClockTime (x : Float) : Type 0 where
+  pub plain : Plain x
+  pub bounded : T (x ≼ whole (2 ^ 40))
+
+-- A cap, where there is one, is plain.
+pub data SoundCap : Cap → Type 0 where
+  at-most : {c : Float} → Plain c → SoundCap (AtMost c)
+  uncapped : SoundCap Uncapped
+
+-- Next-done, where there is one, is no NaN and not below zero; it may be infinite.
+pub data SoundNext : NextDone → Type 0 where
+  at : {x : Float} → Nonneg x → SoundNext (At x)
+  nobody : SoundNext Nobody
+
+-- ---- records
+
+pub record SoundEdge (e : Edge) : Type 0 where
+  pub capacity : Plain (e .capacity)
+  pub moved : Summed (e .«bytes_moved»)
+  pub busy : Summed (e .«busy_transfer_seconds»)
+
+-- A path of at most eight numbers, each below n, and zeros behind them.
+pub record SoundRoute (n : ℕ) (r : Route) : Type 0 where
+  pub places : length (r .hops) ≡ max-path
+  pub short : r .len ≤ max-path
+  pub known : (k : ℕ) → k < r .len → getD (r .hops) k 0 < n
+  pub blank : (k : ℕ) → r .len ≤ k → getD (r .hops) k 0 ≡ 0
+
+pub record SoundTransfer (f : Flows) (t : Transfer) : Type 0 where
+  pub path : SoundRoute (f .«num_edges») (t .path)
+  pub latency : Plain (t .«latency_remaining»)
+  pub bytes : Plain (t .«bytes_remaining»)
+  pub bytes-bound : T (t .«bytes_remaining» ≼ whole (2 ^ 53))
+  pub cap : SoundCap (t .«rate_cap»)
+  pub rate : Nonneg (t .rate)
+  -- infinite only where it shares no edge and has no cap
+  pub rate-finite : Plain (t .rate) ⊎ (t .path .len ≡ 0) × (t .«rate_cap» ≡ Uncapped)
+  pub updated : Plain (t .«last_update»)
+  pub updated-by-now : T (t .«last_update» ≼ f .clock .now)
+
+-- A slot is free and blank, or holds a sound transfer.
+pub record SoundSlot (f : Flows) (t : Transfer) : Type 0 where
+  pub held : t .taken ≡ true → SoundTransfer f t
+  pub blank : t .taken ≡ false → t ≡ free
+
+-- In flight, with an owner of that kind.
+unfoldable pub of-kind : ℕ → Transfer → Bool
+of-kind k t = t .taken && eqb (owner-kind (t .owner)) k
+
+-- What was submitted is in flight, completed or cancelled, and its number fits 64 bits. (01, Clock)
+pub record Balanced (slots : List Transfer) (owner : Owner) (y : Tally) : Type 0 where
+  pub accounted : y .submitted ≡ count (of-kind (owner-kind owner)) slots + y .completed + y .cancelled
+  pub fits : y .submitted < 2 ^ 64
+  pub bytes : Summed (y .«bytes_submitted»)
+
+-- ---- the simulator
+
+pub record Invariant (f : Flows) : Type 0 where
+  -- every table has its size
+  pub edge-places : length (f .edges) ≡ max-edges
+  pub slot-places : length (f .«in_flight») ≡ max-slots
+  pub queue-places : length (f .completed) ≡ max-slots
+  -- the time, and when somebody is done next
+  pub clock : ClockTime (f .clock .now)
+  pub next-done : SoundNext (f .clock .«next_done_at»)
+  pub tolerance : f .tolerance ≡ default-tolerance
+  -- edges
+  pub few-edges : f .«num_edges» ≤ max-edges
+  pub edges : Each SoundEdge no-edge (f .edges)
+  pub edges-blank : (e : ℕ) → f .«num_edges» ≤ e → getD (f .edges) e no-edge ≡ no-edge
+  -- transfers
+  pub slots : Each (SoundSlot f) free (f .«in_flight»)
+  pub ids-differ : (i j : ℕ) → getD (f .«in_flight») i free .taken ≡ true → getD (f .«in_flight») j free .taken ≡ true → getD (f .«in_flight») i free .id ≡ getD (f .«in_flight») j free .id → i ≡ j
+  -- all have been drained up to one time, and while rates are stale that time is the clock's
+  pub drained-together : (i j : ℕ) → getD (f .«in_flight») i free .taken ≡ true → getD (f .«in_flight») j free .taken ≡ true → getD (f .«in_flight») i free .«last_update» ≡ getD (f .«in_flight») j free .«last_update»
+  pub stale-drained : f .clock .«rates_dirty» ≡ true → Each (λ t. t .taken ≡ true → t .«last_update» ≡ f .clock .now) free (f .«in_flight»)
+  -- the paths in flight have at most 2,048 entries together
+  pub path-room : sum (map (λ t. length (path-of f t)) (f .«in_flight»)) ≤ 2048
+  -- the queue: in order, so no entry twice, and blank behind
+  pub queue-ordered : (i j : ℕ) → i < j → j < f .«num_completed» → before (getD (f .completed) i no-completion) (getD (f .completed) j no-completion) ≡ true
+  pub queue-blank : (i : ℕ) → f .«num_completed» ≤ i → getD (f .completed) i no-completion ≡ no-completion
+  -- room, peak and tallies
+  pub room : num-in-flight f + f .«num_completed» ≤ max-slots
+  pub peak-reached : num-in-flight f ≤ f .totals .«peak_in_flight»
+  pub peak-bound : f .totals .«peak_in_flight» ≤ max-slots
+  pub balanced : (owner : Owner) → Balanced (f .«in_flight») owner (tally-of owner (f .totals))
+  -- while rates are not stale: the load table is right, and there were no more rounds than transfers with a path
+  pub load-right : f .clock .«rates_dirty» ≡ false → f .«edge_load» ≡ edge-loads f
+  pub few-rounds : f .clock .«rates_dirty» ≡ false → f .clock .rounds ≤ count (λ t. t .taken && ltb 0 (t .path .len)) (f .«in_flight»)
+  pub rounds-bound : f .clock .rounds ≤ max-slots

@@ -1,0 +1,121 @@
+-- The questions. One that brings rates up to date leaves another simulator; the others only read. (01, Questions) Definitions only.
+use Prim.Native.Nat.{ℕ, _+_}
+use mathlib.Core.Bool.{Bool, not, _||_, cond}
+use mathlib.Core.List.{List, [], _∷_, foldl}
+use lib.ListN.{getD}
+use lib.Ieee.{Float}
+use Rattle.doubles.specs.Doubles.{_⊕_, _⊖_, _⊘_, _≺_, _≼_, nought, infinity, larger, smaller, whole, is-finite, read-zero}
+use Rattle.rules.specs.declared.Cap.{Cap}
+use Rattle.rules.specs.declared.Cap.the-variants.{AtMost, Uncapped}
+use Rattle.rules.specs.declared.Delay.{Delay}
+use Rattle.rules.specs.declared.Delay.the-variants.{After, Never}
+use Rattle.rules.specs.declared.NextDone.{NextDone}
+use Rattle.rules.specs.declared.NextDone.the-variants.{At, Nobody}
+use Rattle.rules.specs.declared.Edge.{Edge}
+use Rattle.rules.specs.declared.EdgeRead.{EdgeRead}
+use Rattle.rules.specs.declared.EdgeRead.the-variants as EdgeRead-variants
+use Rattle.rules.specs.declared.Transfer.{Transfer}
+use Rattle.rules.specs.declared.Answer.{Answer}
+use Rattle.rules.specs.declared.Answer.the-variants.{Value, Wait, Unknown, Refused}
+use Rattle.rules.specs.declared.Outcome.{Outcome}
+use Rattle.rules.specs.declared.Flows.{Flows}
+use Rattle.rules.specs.Lists.{any}
+use Rattle.rules.specs.Records.{no-edge, path-of, takes-part, crossings-by, of-id}
+use Rattle.rules.specs.Done.{done-eps, time-to-done}
+use Rattle.rules.specs.Clock.{ensure-rates}
+use Rattle.rules.specs.Refusals.{_when_, refusing, answering, not-a-number, not-an-amount, not-a-cap, no-such-edge, too-long, read-cap}
+use Rattle.rules.specs.Calls.{drained-to-clock}
+
+-- ---- the next completion
+
+-- How far ahead of the clock next-done lies; one that is past is now.
+unfoldable pub until : Float → NextDone → Delay
+until now Nobody = Never
+until now (At next) = After (larger (next ⊖ now) nought)
+
+-- The time to the next completion under rates brought up to date.
+unfoldable pub next-completion-delay : Flows → Outcome
+next-completion-delay f = let g = ensure-rates f in answering (Wait (until (g .clock .now) (g .clock .«next_done_at»))) g
+
+-- ---- estimates
+
+-- What one more transfer would get of edge e: its capacity over the crossings of those that take part, and one.
+unfoldable pub new-share : Flows → ℕ → Float
+new-share f e = getD (f .edges) e no-edge .capacity ⊘ whole (crossings-by takes-part (path-of f) (f .«in_flight») e + 1)
+
+-- The smallest such share along a path.
+unfoldable pub path-share : Flows → List ℕ → Float
+path-share f path = foldl (λ least e. smaller least (new-share f e)) infinity path
+
+-- A share, or the cap if that is smaller.
+unfoldable pub capped : Cap → Float → Float
+capped Uncapped share = share
+capped (AtMost c) share = smaller share c
+
+-- The time over shared edges: endless where the share is nothing or endless itself.
+unfoldable pub time-at-share : Float → Float → Float → Float
+time-at-share latency bytes share = cond (share ≼ nought || not (is-finite share)) infinity (latency ⊕ bytes ⊘ share)
+
+-- The time where no edge is shared: only a cap above 0 makes bytes take time.
+unfoldable pub time-alone : Float → Float → Cap → Float
+time-alone latency bytes Uncapped = latency
+time-alone latency bytes (AtMost c) = cond (nought ≺ c) (latency ⊕ bytes ⊘ c) latency
+
+unfoldable pub estimate : Flows → List ℕ → Float → Float → Cap → Float
+estimate f [] bytes latency cap = time-alone latency bytes cap
+estimate f (e ∷ path) bytes latency cap = time-at-share latency bytes (capped cap (path-share f (e ∷ path)))
+
+-- How long a new transfer would take at the share it would get now; bytes left are as at the last drain.
+unfoldable pub estimate-new-capped : List ℕ → Float → Float → Cap → Flows → Answer
+estimate-new-capped path bytes latency cap f =
+    refusing
+    (1 when (not-an-amount bytes || not-a-number latency || not-a-cap cap)
+    ∷ 3 when any (no-such-edge f) path
+    ∷ 4 when too-long path
+    ∷ []) Refused
+    (Value (estimate f path (read-zero bytes) (larger (read-zero latency) nought) (read-cap cap)))
+
+-- The same without a cap.
+unfoldable pub estimate-new : List ℕ → Float → Float → Flows → Answer
+estimate-new path bytes latency f = estimate-new-capped path bytes latency Uncapped f
+
+-- A time that never comes is told as 0.
+unfoldable pub or-nought : Delay → Float
+or-nought (After d) = d
+or-nought Never = nought
+
+-- The time to done of the transfer with that id, and 0 where there is none.
+unfoldable pub remaining : ℕ → Float → List Transfer → Float
+remaining id eps slots = of-id id nought (λ t. or-nought (time-to-done eps t)) slots
+
+-- The time a transfer still takes, drained to the clock and with rates up to date.
+unfoldable pub estimate-remaining : ℕ → Flows → Outcome
+estimate-remaining id f = let g = ensure-rates (drained-to-clock f) in answering (Value (remaining id (done-eps g) (g .«in_flight»))) g
+
+-- ---- edges
+
+-- An edge by its number.
+unfoldable pub edge : ℕ → Flows → EdgeRead
+edge e f = refusing (3 when no-such-edge f e ∷ []) EdgeRead-variants.Refused (EdgeRead-variants.Found (getD (f .edges) e no-edge))
+
+-- The mean of an edge's load from 0 to a time.
+unfoldable pub mean-over : Float → Edge → Float
+mean-over until e = cond (nought ≺ until) (e .«busy_transfer_seconds» ⊘ until) nought
+
+unfoldable pub mean-in-flight : ℕ → Float → Flows → Answer
+mean-in-flight e until f =
+    refusing
+    (1 when not-a-number until
+    ∷ 3 when no-such-edge f e
+    ∷ []) Refused
+    (Value (mean-over until (getD (f .edges) e no-edge)))
+
+-- ---- rates
+
+-- The rate of the transfer with that id, or that there is none.
+unfoldable pub rate-in : ℕ → List Transfer → Answer
+rate-in id slots = of-id id Unknown (λ t. Value (t .rate)) slots
+
+-- A transfer's rate, brought up to date.
+unfoldable pub rate : ℕ → Flows → Outcome
+rate id f = let g = ensure-rates f in answering (rate-in id (g .«in_flight»)) g
