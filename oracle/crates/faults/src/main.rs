@@ -1,1 +1,140 @@
-fn main() {}
+//! faults VECTORS [--calls N] [--seed S]: runs every seeded fault against the vectors and against a random run, and
+//! prints what caught it. Ends with 1 where one got through.
+
+mod odd_slots;
+
+use copies::{plain, simulator, slots};
+use std::collections::hash_map::DefaultHasher;
+use std::hash::{Hash, Hasher};
+use std::panic::{catch_unwind, AssertUnwindSafe};
+use std::path::Path;
+use tools::generator::{script, PROFILES};
+use tools::give_up;
+use tools::script::{read_line, Line};
+use tools::session::{Maker, Session};
+
+include!("../list.rs");
+include!(concat!(env!("OUT_DIR"), "/modules.rs"));
+
+/// A script with a mark of each right answer.
+struct Run {
+    name: String,
+    lines: Vec<Line>,
+    marks: Vec<u64>,
+}
+
+fn main() {
+    let words: Vec<String> = std::env::args().skip(1).collect();
+    let setting = |name: &str| words.iter().position(|w| w == name).and_then(|i| words.get(i + 1)).and_then(|n| n.parse().ok());
+    let Some(folder) = words.first() else { give_up("usage: faults VECTORS [--calls N] [--seed S]") };
+    let (calls, seed) = (setting("--calls").unwrap_or(200_000), setting("--seed").unwrap_or(501));
+    let vectors = vectors(Path::new(folder));
+    let random = random_runs(calls, seed as u64);
+    // A fault that panics is caught too; its message is of no use here.
+    std::panic::set_hook(Box::new(|_| {}));
+    let rows = verdicts(&vectors, &random);
+    let (faulty, harmless) = rows.split_at(FAULTS.len());
+    let missed = show_faults(faulty);
+    let total: usize = random.iter().map(|run| run.lines.len()).sum();
+    println!("\n{} faults, {missed} not caught; {} vector files, {total} random calls.", FAULTS.len(), vectors.len());
+    let told_apart = show_harmless(harmless);
+    std::process::exit(i32::from(missed > 0 || told_apart > 0));
+}
+
+/// Where the vectors and where the random run caught a copy.
+type Verdict = (Option<String>, Option<String>);
+
+/// The table of faults; answers how many got through.
+fn show_faults(rows: &[Verdict]) -> usize {
+    println!("| fault | what is wrong | by the vectors | by the random run | caught by |\n|---|---|---|---|---|");
+    let mut missed = 0;
+    for (fault, (by_vectors, by_random)) in FAULTS.iter().zip(rows) {
+        let caught = match (by_vectors, by_random) {
+            (Some(_), Some(_)) => "both",
+            (Some(_), None) => "vectors",
+            (None, Some(_)) => "random",
+            (None, None) => "**nothing**",
+        };
+        missed += usize::from(by_vectors.is_none() && by_random.is_none());
+        let show = |found: &Option<String>| found.clone().unwrap_or("-".to_string());
+        println!("| {} | {} | {} | {} | {caught} |", fault.name, fault.wrong, show(by_vectors), show(by_random));
+    }
+    missed
+}
+
+/// The list of edits that change nothing; answers how many did after all.
+fn show_harmless(rows: &[Verdict]) -> usize {
+    println!("\n## Edits that change nothing\n\nLooked at too, and told apart by no call:\n");
+    let mut told_apart = 0;
+    for (edit, verdict) in HARMLESS.iter().zip(rows) {
+        let mark = if *verdict == (None, None) { "" } else { " **told apart after all**" };
+        told_apart += usize::from(*verdict != (None, None));
+        println!("- {}: {}{mark}", edit.name, edit.wrong);
+    }
+    told_apart
+}
+
+/// Two threads, each with every second fault.
+fn verdicts(vectors: &[Run], random: &[Run]) -> Vec<Verdict> {
+    let verdict = |make: Maker| (first_caught(make, vectors), first_caught(make, random));
+    let half = |odd: usize| (odd..MAKERS.len()).step_by(2).map(|i| (i, verdict(MAKERS[i]))).collect::<Vec<_>>();
+    let mut all = std::thread::scope(|scope| {
+        let other = scope.spawn(|| half(1));
+        let mut mine = half(0);
+        mine.extend(other.join().expect("panics are caught inside"));
+        mine
+    });
+    all.sort_by_key(|(i, _)| *i);
+    all.into_iter().map(|(_, verdict)| verdict).collect()
+}
+
+fn vectors(folder: &Path) -> Vec<Run> {
+    let entries = std::fs::read_dir(folder).unwrap_or_else(|e| give_up(&format!("{}: {e}", folder.display())));
+    let mut files: Vec<_> = entries.flatten().map(|entry| entry.path()).collect();
+    files.retain(|file| file.extension().is_some_and(|e| e == "session"));
+    files.sort();
+    let read = |file: &std::path::PathBuf| {
+        let text = std::fs::read_to_string(file).unwrap_or_else(|e| give_up(&e.to_string()));
+        let name = file.file_stem().unwrap_or_default().to_string_lossy().into_owned();
+        run_of(name, text.lines().map(read_line).collect())
+    };
+    files.iter().map(read).collect()
+}
+
+fn random_runs(calls: usize, seed: u64) -> Vec<Run> {
+    let each = calls.div_ceil(PROFILES.len());
+    let make = |(i, (name, profile)): (usize, &(&str, _))| {
+        let lines = script(seed + i as u64, each, *profile);
+        run_of(name.to_string(), lines.iter().map(|line| read_line(line)).collect())
+    };
+    PROFILES.iter().enumerate().map(make).collect()
+}
+
+fn run_of(name: String, lines: Vec<Line>) -> Run {
+    let lines: Vec<Line> = lines.into_iter().filter(|line| !matches!(line, Line::Blank)).collect();
+    let mut session = Session::new(copies::patched, false);
+    let marks = lines.iter().map(|line| mark(&session.answer_line(line))).collect();
+    Run { name, lines, marks }
+}
+
+fn mark(answer: &Option<String>) -> u64 {
+    let mut hasher = DefaultHasher::new();
+    answer.hash(&mut hasher);
+    hasher.finish()
+}
+
+/// Where a faulty copy first gives another answer, or breaks down.
+fn first_caught(make: Maker, runs: &[Run]) -> Option<String> {
+    runs.iter().find_map(|run| caught_at(make, run).map(|call| format!("{} {call}", run.name)))
+}
+
+fn caught_at(make: Maker, run: &Run) -> Option<usize> {
+    let mut session = Session::new(make, false);
+    for (i, line) in run.lines.iter().enumerate() {
+        let answer = catch_unwind(AssertUnwindSafe(|| session.answer_line(line)));
+        if answer.map_or(true, |answer| mark(&answer) != run.marks[i]) {
+            return Some(i + 1);
+        }
+    }
+    None
+}

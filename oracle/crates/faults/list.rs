@@ -1,0 +1,173 @@
+// The seeded faults: a name, what is wrong, and the texts exchanged, each of which must stand in the patched copy exactly
+// once. Read by the build, which makes a copy of each, and by the program, which runs them.
+
+pub struct Fault {
+    pub name: &'static str,
+    pub wrong: &'static str,
+    pub edits: &'static [(&'static str, &'static str)],
+}
+
+const fn fault(name: &'static str, wrong: &'static str, edits: &'static [(&'static str, &'static str)]) -> Fault {
+    Fault { name, wrong, edits }
+}
+
+pub const FAULTS: &[Fault] = &[
+    // ---- document 01's slips ----
+    fault("cap_at_equality", "a cap equal to the share wins", &[("cap < share", "cap <= share")]),
+    fault(
+        "one_step",
+        "load * share leaves the residual in one step",
+        &[
+            ("let mut cap_cursor = 0;", "let mut cap_cursor = 0; let mut taken = vec![0usize; ne]; let mut by = 0.0;"),
+            (
+                "self.rounds += 1;\n",
+                "self.rounds += 1; for e in 0..ne { if taken[e] > 0 { \
+                 residual[e] = (residual[e] - taken[e] as f64 * by).max(0.0); taken[e] = 0; } }\n",
+            ),
+            ("residual[e] = (residual[e] - share).max(0.0);", "taken[e] += 1; by = share;"),
+        ],
+    ),
+    fault(
+        "repeat_once_in_load",
+        "a repeated edge loads once",
+        &[
+            ("load[e] += 1;\n                on_edge", "if !on_edge[e].contains(&i) { load[e] += 1; }\n                on_edge"),
+            ("- cap).max(0.0);\n                        load[e] -= 1;", "- cap).max(0.0);\n load[e] = load[e].saturating_sub(1);"),
+            ("- share).max(0.0);\n                    load[e] -= 1;", "- share).max(0.0);\n load[e] = load[e].saturating_sub(1);"),
+        ],
+    ),
+    fault(
+        "cancel_fills_early",
+        "cancel removes, fills, then drains",
+        &[
+            ("contains_key(id) {\n            self.drain_to(self.now);", "contains_key(id) {"),
+            (
+                "remove(id).is_some() {\n            self.rates_dirty = true;",
+                "remove(id).is_some() {\n self.rates_dirty = true; self.ensure_rates(); self.drain_to(self.now); self.rates_dirty = true;",
+            ),
+        ],
+    ),
+    fault("quiet_drains", "the quiet advance drains", &[("if !self.rates_dirty\n", "if self.edges.len() > 99 && !self.rates_dirty\n")]),
+    // ---- the three drains ----
+    fault("cancel_no_drain", "cancel does not drain", &[("contains_key(id) {\n            self.drain_to(self.now);", "contains_key(id) {")]),
+    fault("widen_no_drain", "widen does not drain", &[("bytes_per_sec: f64) {\n        self.drain_to(self.now);", "bytes_per_sec: f64) {")]),
+    fault("add_edge_no_drain", "add_edge does not drain", &[("-> EdgeId {\n        self.drain_to(self.now);", "-> EdgeId {")]),
+    // ---- comparisons turned ----
+    fault("edge_tie_high", "at equal shares the highest edge wins", &[("share < s)", "share <= s)")]),
+    fault("done_bytes_strict", "done asks bytes < B", &[("t.bytes_remaining <= DONE_EPSILON_BYTES\n", "t.bytes_remaining < DONE_EPSILON_BYTES\n")]),
+    fault("done_time_strict", "done asks bytes/rate < eps", &[("/ t.rate <= eps", "/ t.rate < eps")]),
+    fault("done_latency_strict", "done asks latency < eps", &[("t.latency_remaining > eps", "t.latency_remaining >= eps")]),
+    fault("fill_at_b", "bytes = B takes part in a filling", &[("t.bytes_remaining > DONE_EPSILON_BYTES", "t.bytes_remaining >= DONE_EPSILON_BYTES")]),
+    fault(
+        "estimate_at_b",
+        "bytes = B counts in an estimate",
+        &[("<= DONE_EPSILON_BYTES {\n                continue", "< DONE_EPSILON_BYTES {\n                continue")],
+    ),
+    fault("rest_turned", "time to done takes the latency alone above B", &[("<= DONE_EPSILON_BYTES {\n            return", "> DONE_EPSILON_BYTES {\n            return")]),
+    fault("rate_zero_finishes", "rate 0 gives an infinite time, not never", &[("if t.rate > 0.0 {", "if t.rate >= 0.0 {")]),
+    fault("quiet_at_next_done", "an advance to next-done itself is quiet", &[("|t| t > now)", "|t| t >= now)")]),
+    fault("fill_at_same_time", "a drain to the clock fills first", &[("if now > self.now {", "if now >= self.now {")]),
+    fault("mean_at_zero", "mean divides by zero", &[("if until > 0.0 {", "if until >= 0.0 {")]),
+    fault("share_zero_estimates", "a share of 0 is divided by", &[("if share <= 0.0 ||", "if share < 0.0 ||")]),
+    fault("estimate_cap_zero", "an estimate divides by cap 0", &[("if cap > 0.0 =>", "if cap >= 0.0 =>")]),
+    fault("eps_smaller", "eps is the smaller of the two", &[("EPSILON).max(DONE_EPSILON_SECONDS)", "EPSILON).min(DONE_EPSILON_SECONDS)")]),
+    fault("eps_without_4", "eps lacks the factor 4", &[("abs() * 4.0 *", "abs() * 1.0 *")]),
+    fault("next_done_last", "next-done is the largest time", &[(".min_by(", ".max_by(")]),
+    fault("quiet_needs_later", "an advance to the clock itself is never quiet", &[("now >= self.now", "now > self.now")]),
+    fault("flows_in_no_time", "an infinite rate moves bytes in no time", &[("if dt > 0.0 && t.rate", "if dt >= 0.0 && t.rate")]),
+    fault("pays_the_larger", "the latency pays the larger of itself and dt", &[("latency_remaining.min(dt)", "latency_remaining.max(dt)")]),
+    fault("estimate_widest", "an estimate takes the widest edge", &[("f64::INFINITY, f64::min", "0.0, f64::max")]),
+    fault("estimate_cap_larger", "an estimate takes the cap if larger", &[("share.min(cap)", "share.max(cap)")]),
+    fault("estimate_latency", "an estimate over a path keeps a latency below zero", &[("latency.max(0.0) + bytes / share", "latency + bytes / share")]),
+    // ---- orders changed ----
+    fault(
+        "eps_of_old_clock",
+        "an advance takes eps before it drains",
+        &[(
+            "self.drain_to(now);\n        self.ensure_rates();\n        let eps = self.done_eps();",
+            "let eps = self.done_eps();\n        self.drain_to(now);\n        self.ensure_rates();",
+        )],
+    ),
+    fault("cap_tie_high", "at equal caps the highest slot goes first", &[("a.1.total_cmp(&b.1)", "a.1.total_cmp(&b.1).then(b.0.cmp(&a.0))")]),
+    fault("caps_descending", "the largest cap goes first", &[("a.1.total_cmp(&b.1)", "b.1.total_cmp(&a.1)")]),
+    fault("list_descending", "completions by descending id", &[("a.1.cmp(&b.1)", "b.1.cmp(&a.1)")]),
+    fault("list_by_slot", "completions by slot", &[("done.sort_by(|a, b| a.1.cmp(&b.1));", "")]),
+    fault("slots_backwards", "walks go from the highest slot", &[("crate::slots::SlotMap as", "crate::odd_slots::Backwards as")]),
+    fault("highest_free_slot", "a new transfer takes the highest free slot", &[("crate::slots::SlotMap as", "crate::odd_slots::HighestFree as")]),
+    fault("slots_never_reused", "freed slots are not used again", &[("crate::slots::SlotMap as", "crate::odd_slots::NeverAgain as")]),
+    fault(
+        "submit_inserts_first",
+        "a submission drains after inserting",
+        &[
+            ("self.drain_to(now);\n        match owner", "let until = now; let now = self.now;\n        match owner"),
+            ("self.rates_dirty = true;\n    }\n\n    /// Advance every", "self.rates_dirty = true; self.drain_to(until);\n    }\n\n    /// Advance every"),
+        ],
+    ),
+    fault("peak_before", "the peak is taken before inserting", &[("self.peak_in_flight.max(self.in_flight.len())", "self.peak_in_flight.max(self.in_flight.len() - 1)")]),
+    // ---- steps left out or added ----
+    fault("no_clamp", "a residual may fall below 0", &[("(residual[e] - share).max(0.0)", "residual[e] - share")]),
+    fault("latency_flows", "bytes flow while the latency is paid", &[("dt -= l;", "")]),
+    fault("moves_too_much", "more may move than is left", &[("(t.rate * dt).min(t.bytes_remaining)", "t.rate * dt")]),
+    fault(
+        "moved_halved",
+        "an edge met twice counts half the moved bytes each time",
+        &[("bytes_moved += moved;", "bytes_moved += if t.path.iter().position(|x| *x == e) < t.path.iter().rposition(|x| *x == e) { moved / 2.0 } else { moved };")],
+    ),
+    fault("integral_once", "the drain's load integral counts an edge once", &[("busy_transfer_seconds += c as f64 * dt;\n            }\n", "busy_transfer_seconds += (c.min(1)) as f64 * dt;\n            }\n")]),
+    fault("quiet_integral_once", "the quiet advance's load integral counts an edge once", &[("busy_transfer_seconds += c as f64 * dt;\n                }\n", "busy_transfer_seconds += (c.min(1)) as f64 * dt;\n                }\n")]),
+    fault("latency_no_share", "a latency still being paid holds no share", &[("t.bytes_remaining > DONE_EPSILON_BYTES", "t.bytes_remaining > DONE_EPSILON_BYTES && t.latency_remaining <= 0.0")]),
+    fault("done_not_stale", "completions leave the rates as they are", &[("if !done.is_empty() {", "if done.len() > 999 {")]),
+    fault("widen_not_stale", "widen leaves the rates as they are", &[("capacity += bytes_per_sec;\n        self.rates_dirty = true;", "capacity += bytes_per_sec;")]),
+    fault("estimate_without_itself", "an estimate forgets the new transfer", &[("(load[e] + 1) as f64", "load[e].max(1) as f64")]),
+    fault("remaining_no_drain", "estimate_remaining does not drain", &[("self.drain_to(now);\n        self.ensure_rates();\n        self.in_flight", "self.ensure_rates();\n        self.in_flight")]),
+    fault("delay_below_zero", "the delay may fall below 0", &[("(t - self.now).max(0.0)", "(t - self.now)")]),
+    fault("latency_below_zero", "a latency below zero is kept", &[("latency_remaining: latency.max(0.0)", "latency_remaining: latency")]),
+    fault("no_path_no_rate", "no path and no cap gives rate 0", &[("unwrap_or(f64::INFINITY)", "unwrap_or(0.0)")]),
+    fault(
+        "idle_rate_reset",
+        "a transfer without bytes loses its rate in a filling",
+        &[("let mut ts: Vec<", "for t in self.in_flight.values_mut() { if t.bytes_remaining <= DONE_EPSILON_BYTES { t.rate = 0.0; } }\n        let mut ts: Vec<")],
+    ),
+    fault("rounds_with_caps_only", "rounds won by a cap are not counted", &[("frozen[i] = true;\n                    unfrozen -= 1;", "frozen[i] = true; self.rounds -= 1;\n                    unfrozen -= 1;")]),
+];
+
+/// Edits that were looked at and change nothing, with the reason. The program makes sure that nothing tells them apart.
+pub const HARMLESS: &[Fault] = &[
+    fault(
+        "rest_strict",
+        "time to done, bytes < B: bytes between 0 and B only stand behind a paid latency, and then the transfer is done",
+        &[("<= DONE_EPSILON_BYTES {\n            return", "< DONE_EPSILON_BYTES {\n            return")],
+    ),
+    fault("done_rate_zero", "done, rate >= 0: bytes/0 is infinite, which is not below eps", &[("(t.rate > 0.0 && t.b", "(t.rate >= 0.0 && t.b")]),
+    fault(
+        "cap_no_clamp",
+        "no clamp in a cap's round: the cap lies below the rounded share, so its crossings fit while load is left",
+        &[("(residual[e] - cap).max(0.0)", "residual[e] - cap")],
+    ),
+    fault("share_as_is", "a share's rate not raised to 0: residuals never fall below 0", &[("t.rate = share.max(0.0)", "t.rate = share")]),
+    fault("cap_as_is", "a cap's rate not raised to 0: caps below 0 are refused", &[(".rate = cap.max(0.0)", ".rate = cap")]),
+    fault(
+        "step_of_zero",
+        "draining goes on at dt = 0 and pays a latency of 0: nothing is paid",
+        &[("if dt <= 0.0 {", "if dt < 0.0 {"), ("if t.latency_remaining > 0.0 {", "if t.latency_remaining >= 0.0 {")],
+    ),
+    fault(
+        "moves_nothing",
+        "draining goes on at rate 0 or without bytes: nothing is moved",
+        &[("&& t.rate > 0.0 && t.bytes_remaining > 0.0", "&& t.rate >= 0.0 && t.bytes_remaining >= 0.0")],
+    ),
+    fault(
+        "integral_of_zero",
+        "load integrals grow at dt = 0: zero is added",
+        &[
+            ("self.now;\n            if dt > 0.0 {", "self.now;\n            if dt >= 0.0 {"),
+            ("self.now;\n        if dt > 0.0 {", "self.now;\n        if dt >= 0.0 {"),
+        ],
+    ),
+    fault(
+        "load_table",
+        "the quiet advance does not look at the load table's length: what adds an edge makes rates stale",
+        &[("&& self.edge_load.len() == self.edges.len()", "")],
+    ),
+    fault("share_finite", "an estimate does not ask whether its share is infinite: capacities and caps are finite", &[("|| !share.is_finite() {", "{")]),
+];
