@@ -1,4 +1,4 @@
-//! Takes Debian's rustc-hash where `oracle/fetch-rustc-hash` has put it, else the stand-in.
+//! Takes Debian's rustc-hash where `oracle/fetch-rustc-hash` has put it, else the stand-in (RUSTC_HASH=stand-in asks for it).
 
 use std::path::PathBuf;
 
@@ -7,7 +7,9 @@ fn main() {
     let fetched = package.join("../../fetched");
     println!("cargo::rerun-if-changed={}", fetched.display());
     let debian = fetched.join("rustc-hash-1.1.0/src/lib.rs");
-    let (file, source) = match debian.is_file() {
+    println!("cargo::rerun-if-env-changed=RUSTC_HASH");
+    let asked = std::env::var("RUSTC_HASH").is_ok_and(|name| name == "stand-in");
+    let (file, source) = match debian.is_file() && !asked {
         true => (debian, "Debian's rustc-hash 1.1.0"),
         false => (package.join("src/stand_in.rs"), "the stand-in for rustc-hash"),
     };

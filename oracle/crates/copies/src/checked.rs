@@ -203,3 +203,47 @@ fn highest_bit(value: f64) -> i32 {
     let (m, e) = parts(value);
     if m == 0 { i32::MIN / 2 } else { e + 63 - m.leading_zeros() as i32 }
 }
+
+#[cfg(test)]
+mod tests {
+    use super::*;
+
+    fn inexact<T>(work: impl Fn() -> T) -> bool {
+        take_inexact();
+        let _ = work();
+        take_inexact()
+    }
+
+    fn n(value: f64) -> Checked {
+        Checked::literal(value)
+    }
+
+    #[test]
+    fn exact_operations_pass() {
+        assert!(!inexact(|| [n(12.0) / n(3.0), n(0.5) * n(10.0), n(5.0) - n(12.25), n(2f64.powi(52)) + n(1.0)]));
+        assert!(!inexact(|| [n(5.0) / Checked::INFINITY, Checked::INFINITY * n(3.0), n(0.0) * n(7.0)]));
+    }
+
+    #[test]
+    fn roundings_are_noted() {
+        assert!(inexact(|| n(1.0) / n(3.0)));
+        assert!(inexact(|| n(0.1) * n(0.1)));
+        assert!(inexact(|| n(2f64.powi(53)) + n(1.0)));
+        assert!(inexact(|| n(f64::MAX) * n(2.0)));
+        // Lost below the least subnormal, where a fused product would lose the rest too.
+        assert!(inexact(|| n(f64::from_bits(3)) / n(2.0)));
+        assert!(inexact(|| n(1e-200) * n(1e-200)));
+    }
+
+    #[test]
+    fn sums_must_be_exact_in_every_order() {
+        let sum_of = |addends: [f64; 3]| {
+            let mut sum = n(0.0);
+            addends.into_iter().for_each(|a| sum += n(a));
+        };
+        // 1 + 1 + 2^53 is exact as it stands, 2^53 + 1 + 1 is not.
+        assert!(inexact(|| sum_of([1.0, 1.0, 2f64.powi(53)])));
+        assert!(!inexact(|| sum_of([1.0, 1.0, 2f64.powi(52)])));
+        assert!(!inexact(|| sum_of([0.25, 0.5, 1024.0])));
+    }
+}

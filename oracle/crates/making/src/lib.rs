@@ -174,3 +174,27 @@ pub fn finish(made: Result<(), String>) {
         std::process::exit(1);
     }
 }
+
+#[cfg(test)]
+mod tests {
+    use super::*;
+
+    #[test]
+    fn a_patch_applies_where_its_lines_stand() {
+        let patch = "--- a\n+++ b\n@@ -2,2 +2,3 @@\n two\n+new\n three\n";
+        assert_eq!(apply_patch("one\ntwo\nthree\nfour\n", patch).unwrap(), "one\ntwo\nnew\nthree\nfour\n");
+        assert!(apply_patch("one\n2\nthree\n", patch).is_err());
+    }
+
+    #[test]
+    fn only_float_literals_are_wrapped() {
+        assert_eq!(wrap_literals("a.1 > 0.0 && x == 0"), "a.1 > f64::literal(0.0) && x == 0");
+        assert_eq!(wrap_literals("= 1e-12; v[0]"), "= f64::literal(1e-12); v[0]");
+    }
+
+    #[test]
+    fn a_text_is_exchanged_only_where_it_stands_once() {
+        assert_eq!(substitute("a b", "b", "c").unwrap(), "a c");
+        assert!(substitute("b b", "b", "c").is_err());
+    }
+}

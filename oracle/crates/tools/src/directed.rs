@@ -550,7 +550,7 @@ fn clamp() -> Vec<String> {
     // Without the clamp the sixth would get 8 units.
     rates(b, &[LEAST, LEAST, LEAST, LEAST, 0.0, 7.0 * LEAST], 3);
     b.all(&["next_completion_delay", "advance 1000000 768", "dump"]);
-    b.begin("a cap's round clamps: five at one unit each on an edge of three");
+    b.begin("caps equal to a share that was rounded up: the edge wins and clamps");
     b.all(&[&format!("add_edge {}", unit(3)), &format!("add_edge {}", unit(9))]);
     (0..5).for_each(|id| drop(b.say(&format!("submit {id} 0 0 5 0 {} 0 2 0 1", unit(1)))));
     b.say("submit 5 0 0 5 0 - 0 1 1");

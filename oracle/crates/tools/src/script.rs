@@ -249,3 +249,29 @@ impl fmt::Display for Call {
         }
     }
 }
+
+#[cfg(test)]
+mod tests {
+    use super::*;
+
+    #[test]
+    fn doubles_are_read_as_bits_or_decimals() {
+        assert_eq!(read_double("4014000000000000"), Some(5.0));
+        assert_eq!(read_double("-3.5"), Some(-3.5));
+        assert_eq!(read_double("0.1"), Some(0.1));
+        assert_eq!(read_double("999999999999999"), Some(999_999_999_999_999.0));
+        for bad in ["", "-", ".5", "5.", "+1", "1e3", "12345678901234567", "1.2.3", "--1"] {
+            assert_eq!(read_double(bad), None, "{bad}");
+        }
+    }
+
+    #[test]
+    fn a_call_is_read_back_as_written() {
+        for line in ["submit 1 0 7 100 0.25 - 3 2 0 1", "advance 4014000000000001 768", "widen 0 -1", "new", "dump"] {
+            let Line::Call(call) = read_line(line) else { panic!("{line}") };
+            assert_eq!(call.to_string(), line);
+        }
+        assert!(matches!(read_line("  # only a remark"), Line::Blank));
+        assert!(matches!(read_line("now 1"), Line::Malformed));
+    }
+}
