@@ -16,18 +16,12 @@ pub fn flows_text() -> Result<String, String> {
 
 /// FLOWS_SRC where it is set, else docs/src in the repository, else shared/docs/src beside the repository.
 fn flows_file() -> Result<PathBuf, String> {
-    let repository = repository();
-    let folders = match std::env::var_os("FLOWS_SRC") {
-        // A relative setting counts from the repository; an absolute one replaces it.
-        Some(set) if !set.is_empty() => vec![repository.join(set)],
-        _ => vec![repository.join("docs/src"), repository.join("../shared/docs/src")],
-    };
-    let files: Vec<PathBuf> = folders.iter().map(|f| f.join(BELOW)).collect();
-    if let Some(file) = files.iter().find(|f| f.is_file()) {
-        return Ok(file.clone());
-    }
-    let tried: Vec<String> = files.iter().map(|f| f.display().to_string()).collect();
-    Err(format!("flows.rs is missing (set FLOWS_SRC to the folder above {BELOW}); looked at {}", tried.join(", ")))
+    let set = std::env::var("FLOWS_SRC").unwrap_or_default();
+    // A relative setting counts from the repository; joining an absolute one replaces it.
+    let folders = if set.is_empty() { vec!["docs/src", "../shared/docs/src"] } else { vec![set.as_str()] };
+    let mut files = folders.iter().map(|folder| repository().join(folder).join(BELOW));
+    let tried = folders.join(" or ");
+    files.find(|file| file.is_file()).ok_or(format!("flows.rs is missing: no {BELOW} in {tried} (set FLOWS_SRC)"))
 }
 
 /// The folder above oracle/.
@@ -166,12 +160,10 @@ pub fn modules(folder: &Path, names: &[String]) -> String {
     names.iter().map(declare).collect()
 }
 
-/// Ends a build script: a failure is one line of cargo's errors.
+/// Ends a build script. Cargo turns the line into its one error; a status of our own would print everything twice.
 pub fn finish(made: Result<(), String>) {
     if let Err(why) = made {
         println!("cargo::error={why}");
-        eprintln!("{why}");
-        std::process::exit(1);
     }
 }
 
