@@ -117,12 +117,19 @@ impl Program {
             .spawn()
             .map_err(trouble)?;
         let end = Instant::now() + Duration::from_secs(self.seconds);
-        while child.try_wait().map_err(trouble)?.is_none() {
+        let status = loop {
+            if let Some(status) = child.try_wait().map_err(trouble)? {
+                break status;
+            }
             if Instant::now() > end {
-                child.kill().and_then(|_| child.wait()).map_err(trouble)?;
-                break;
+                // Out of time: what it has said so far is its answer.
+                break child.kill().and_then(|_| child.wait()).map_err(trouble)?;
             }
             std::thread::sleep(Duration::from_millis(2));
+        };
+        // The shell's ways to say that there is no such program.
+        if matches!(status.code(), Some(126 | 127)) {
+            return Err(format!("{}: cannot be run", self.command));
         }
         let text = std::fs::read(&output.0).map_err(trouble)?;
         Ok(answers(&String::from_utf8_lossy(&text)))

@@ -164,7 +164,7 @@ pub fn read_double(word: &str) -> Option<f64> {
     }
     // Both are below 2^53, so the one division rounds to the nearest double.
     let digits: u64 = format!("{whole}{fraction}").parse().ok()?;
-    let value = digits as f64 / 10f64.powi(fraction.len() as i32);
+    let value = digits as f64 / 10u64.pow(fraction.len() as u32) as f64;
     Some(if negative { -value } else { value })
 }
 
