@@ -1,0 +1,100 @@
+//! Scripts made for places that random calls do not find. Each is run while it is made, and what it is made for is asserted.
+
+mod cases;
+mod limits;
+mod orders;
+mod refusals;
+mod tolerance;
+
+use crate::script::{hex, read_line, write_double, write_path};
+use crate::session::Session;
+
+const B: f64 = 1e-6;
+const F: f64 = 1e-12;
+const TWO_20: f64 = (1 << 20) as f64;
+const LATEST: f64 = (1u64 << 40) as f64;
+const LEAST: f64 = f64::from_bits(1);
+const MOST_BYTES: u64 = 1 << 53;
+
+/// The name of each file and its lines.
+pub fn scripts() -> Vec<(&'static str, Vec<String>)> {
+    vec![
+        ("cases", cases::cases()),
+        ("bytes-left", tolerance::bytes_left()),
+        ("drain-time", tolerance::drain_time()),
+        ("latency-left", tolerance::latency_left()),
+        ("next-done", tolerance::next_done()),
+        ("equal-caps", orders::equal_caps()),
+        ("clamp", orders::clamp()),
+        ("refusals", refusals::refusals()),
+        ("limits", limits::limits()),
+        ("full", limits::full()),
+    ]
+}
+
+/// A script being made, with the session that has answered it so far.
+struct Book {
+    lines: Vec<String>,
+    session: Session,
+}
+
+impl Book {
+    fn new() -> Book {
+        Book { lines: Vec::new(), session: Session::new(copies::patched, false) }
+    }
+
+    /// A fresh simulator, and a remark that says what follows.
+    fn begin(&mut self, remark: &str) {
+        self.lines.push(format!("# {remark}"));
+        self.say("new");
+    }
+
+    fn say(&mut self, line: &str) -> String {
+        self.lines.push(line.to_string());
+        self.session.answer_line(&read_line(line)).expect("a call")
+    }
+
+    /// A call whose answer is known before.
+    fn expect(&mut self, line: &str, answer: &str) {
+        let given = self.say(line);
+        let begun = self.lines.iter().rposition(|l| l == "new").unwrap_or(0);
+        assert_eq!(given, answer, "call {} of {}", self.lines.len() - begun, self.lines[begun.saturating_sub(1)]);
+    }
+
+    fn all(&mut self, lines: &[&str]) {
+        lines.iter().for_each(|line| drop(self.say(line)));
+    }
+
+    /// A refusal that must leave no trace.
+    fn refuses(&mut self, line: &str, number: u32) {
+        let before = self.state();
+        self.expect(line, &format!("refused {number}"));
+        assert_eq!(self.state(), before, "{line} left a trace");
+    }
+
+    fn state(&mut self) -> String {
+        self.session.answer_line(&read_line("dump")).expect("a dump")
+    }
+
+    fn transfer(&self, id: u32) -> copies::TransferView {
+        self.session.sim.transfers().into_iter().find(|t| t.id == id).expect("in flight")
+    }
+
+    /// What a reader asks when the interesting moment is reached.
+    fn look(&mut self) {
+        self.all(&["dump", "next_completion_delay", "rounds", "dump"]);
+    }
+}
+
+fn value(v: f64) -> String {
+    format!("value {}", hex(v))
+}
+
+fn after(v: f64) -> String {
+    format!("after {}", hex(v))
+}
+
+/// A number and the doubles just below and above it.
+fn neighbours(v: f64) -> [f64; 3] {
+    [v.next_down(), v, v.next_up()]
+}
