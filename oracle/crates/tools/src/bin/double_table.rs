@@ -1,48 +1,34 @@
-//! double_table FILE: what the Rust makes of a list of doubles, for the float helpers of the port.
-//!
-//! FILE holds bit patterns of 16 hex digits under `bits`, patterns for the pairs under `pairs` (no NaN, no negative zero)
-//! and whole numbers under `whole`. Every NaN is written as one pattern.
+//! double_table: on standard input the table of bit patterns that the crate doubles_table runs on, on standard output the Rust's answers.
+//! A line of the table is a letter and sixteen hexadecimal digits: b a pattern, p a member of the pairs, w a count.
 
-use tools::give_up;
-use tools::script::without_remark;
-use tools::session::plus_zero;
+use std::io::Read;
+
+// Rust leaves the bits of a NaN open, so the table has one pattern for them all.
+fn bits(x: f64) -> u64 {
+    if x.is_nan() { 0x7ff8_0000_0000_0000 } else { x.to_bits() }
+}
 
 fn main() {
-    let Some(name) = std::env::args().nth(1) else { give_up("usage: double_table FILE") };
-    let text = std::fs::read_to_string(&name).unwrap_or_else(|e| give_up(&format!("double_table: {name}: {e}")));
-    let (mut section, mut pairs) = (String::new(), Vec::new());
-    for line in text.lines().map(without_remark).filter(|line| !line.is_empty()) {
-        match (section.as_str(), line) {
-            (_, "bits" | "pairs" | "whole") => section = line.to_string(),
-            ("bits", word) => bits(word),
-            ("pairs", word) => pairs.push(pattern(word)),
-            ("whole", word) => whole(word),
-            _ => give_up(&format!("double_table: no section for {line}")),
+    let mut text = String::new();
+    std::io::stdin().read_to_string(&mut text).expect("the table is readable text");
+    let rows: Vec<(&str, u64)> = text
+        .lines()
+        .map(|line| (&line[..1], u64::from_str_radix(&line[2..], 16).expect("sixteen digits")))
+        .collect();
+    let marked = |mark: &str| -> Vec<u64> { rows.iter().filter(|row| row.0 == mark).map(|row| row.1).collect() };
+    for pattern in marked("b") {
+        let x = f64::from_bits(pattern);
+        // Adding zero turns a negative zero into zero and changes no other number.
+        println!("bits {:016x} finite {} zero_read {:016x}", bits(x), x.is_finite() as u8, bits(x + 0.0));
+    }
+    let members = marked("p");
+    for &first in &members {
+        for &second in &members {
+            let (x, y) = (f64::from_bits(first), f64::from_bits(second));
+            println!("pair {:016x} {:016x} min {:016x} max {:016x}", first, second, bits(x.min(y)), bits(x.max(y)));
         }
     }
-    for a in &pairs {
-        for b in &pairs {
-            println!("pair {} {} min {} max {}", hex(*a), hex(*b), hex(a.min(*b)), hex(a.max(*b)));
-        }
+    for count in marked("w") {
+        println!("whole {} {:016x}", count, bits(count as f64));
     }
-}
-
-fn bits(word: &str) {
-    let value = pattern(word);
-    println!("bits {word} finite {} zero_read {}", u8::from(value.is_finite()), hex(plus_zero(value)));
-}
-
-fn whole(word: &str) {
-    let number: u64 = word.parse().unwrap_or_else(|_| give_up(&format!("double_table: not a number: {word}")));
-    println!("whole {number} {}", hex(number as f64));
-}
-
-fn pattern(word: &str) -> f64 {
-    let bits = u64::from_str_radix(word, 16).ok().filter(|_| word.len() == 16);
-    f64::from_bits(bits.unwrap_or_else(|| give_up(&format!("double_table: not 16 hex digits: {word}"))))
-}
-
-fn hex(value: f64) -> String {
-    let bits = if value.is_nan() { 0x7ff8_0000_0000_0000 } else { value.to_bits() };
-    format!("{bits:016x}")
 }
