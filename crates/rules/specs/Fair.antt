@@ -17,41 +17,40 @@ use Rattle.rules.specs.Lists.{count, sum, crossings}
 use Rattle.rules.specs.Records.{no-edge, free, path-of, takes-part, crossings-by}
 use Rattle.rules.specs.Filling.{Filling, recompute-rates}
 
-module _ (path : Transfer → List ℕ) (edges : List Edge) where
+-- The exact capacity of edge e.
+unfoldable pub C : List Edge → ℕ → ℕ
+C edges e = exact (getD edges e no-edge .capacity)
+
+module _ (path : Transfer → List ℕ) where
   -- The transfers of the demand: more than B bytes left, and a path that isn't empty.
   unfoldable pub in-demand : Transfer → Bool
   in-demand t = takes-part t && ltb 0 (length (path t))
-
-  -- The exact capacity of edge e.
-  unfoldable pub C : ℕ → ℕ
-  C e = exact (getD edges e no-edge .capacity)
 
   -- How often they cross edge e in all, repeats counted.
   unfoldable pub k : List Transfer → ℕ → ℕ
   k ts e = crossings-by in-demand path ts e
 
-  -- The slack of edge e.
-  unfoldable pub slack-of : List Transfer → ℕ → ℕ
-  slack-of ts e = slack (k ts e) (C e)
-
   -- Their rates on edge e, added up crossing by crossing.
   unfoldable pub carried : List Transfer → ℕ → ℕ
   carried ts e = sum (map (λ t. cond (in-demand t) (crossings e (path t) * exact (t .rate)) 0) ts)
 
+  -- The slack of edge e.
+  unfoldable pub slack-of : List Edge → List Transfer → ℕ → ℕ
+  slack-of edges ts e = slack (k ts e) (C edges e)
+
   -- The transfers `ts`, with the rates that a filling gave them in `rounds` rounds, are treated fairly.
-  pub record Fair (ts : List Transfer) (rounds : ℕ) : Type 0 where
+  pub record Fair (edges : List Edge) (ts : List Transfer) (rounds : ℕ) : Type 0 where
     -- every rate is a number, so that it has an exact value
     pub a-number : (i : ℕ) → let t = getD ts i free in T (in-demand t) → Plain (t .rate)
     -- nobody runs above its cap
     pub within-cap : (i : ℕ) → let t = getD ts i free in T (in-demand t) → (c : Float) → t .«rate_cap» ≡ AtMost c → exact (t .rate) ≤ exact c
     -- nor above any capacity on its path
-    pub within-capacity : (i e : ℕ) → let t = getD ts i free in T (in-demand t) → 0 < crossings e (path t) → exact (t .rate) ≤ C e
+    pub within-capacity : (i e : ℕ) → let t = getD ts i free in T (in-demand t) → 0 < crossings e (path t) → exact (t .rate) ≤ C edges e
     -- the rates on an edge add up to its capacity and slack at the most
-    pub sums : (e : ℕ) → carried ts e ≤ C e + slack-of ts e
+    pub sums : (e : ℕ) → carried ts e ≤ C edges e + slack-of edges ts e
     -- everybody runs at exactly its cap, or at no less than C/k minus slack of an edge on its path
     pub no-less : (i : ℕ) → let t = getD ts i free in T (in-demand t) →
-        (t .«rate_cap» ≡ AtMost (t .rate))
-        ⊎ ((e : ℕ) × (0 < crossings e (path t)) × (C e ≤ k ts e * (exact (t .rate) + slack-of ts e)))
+        (t .«rate_cap» ≡ AtMost (t .rate)) ⊎ ((e : ℕ) × (0 < crossings e (path t)) × (C edges e ≤ k ts e * (exact (t .rate) + slack-of edges ts e)))
     -- at most one round for each of them
     pub few-rounds : rounds ≤ count in-demand ts
 

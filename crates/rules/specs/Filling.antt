@@ -51,6 +51,55 @@ unfoldable pub entered : List ℕ → Transfer → Seat
 entered [] t = record { transfer = with-rate (lone-rate (t .«rate_cap»)) t; unfrozen = false }
 entered (e ∷ path) t = record { transfer = t; unfrozen = true }
 
+-- ---- what a round decides
+
+-- The share of edge e: what is left of its capacity over its load, if it has one.
+unfoldable pub share : ℕ → Float → ℕ → Best
+share e residual zero = Nobody
+share e residual (suc n) = At e (residual ⊘ whole (suc n))
+
+-- The cap of the transfer in slot i, if it is unfrozen and has one.
+unfoldable pub own-cap : ℕ → Bool → Cap → Best
+own-cap i false cap = Nobody
+own-cap i true Uncapped = Nobody
+own-cap i true (AtMost c) = At i c
+
+-- The smallest cap among the unfrozen, the lowest slot at equality.
+unfoldable pub smallest-cap : Filling → Best
+smallest-cap f = tightest (map-from 0 (λ i s. own-cap i (s .unfrozen) (s .transfer .«rate_cap»)) (f .seats))
+
+-- The smallest cap wins over the smallest share only where it is strictly below it.
+unfoldable pub verdict : Best → Best → Verdict
+verdict Nobody Nobody = ByNobody
+verdict Nobody (At e x) = ByEdge e x
+verdict (At i c) Nobody = ByCap i c
+verdict (At i c) (At e x) = cond (c ≺ x) (ByCap i c) (ByEdge e x)
+
+-- ---- what a verdict says
+
+-- The rate that a verdict gives.
+unfoldable pub rate-by : Verdict → Float
+rate-by (ByCap i c) = c
+rate-by (ByEdge e x) = x
+rate-by ByNobody = nought
+
+-- Whether a verdict names the transfer in slot i on that path: the slot itself, or all that cross the edge.
+unfoldable pub names : Verdict → ℕ → List ℕ → Bool
+names (ByCap j c) i p = eqb i j
+names (ByEdge e x) i p = any (eqb e) p
+names ByNobody i p = false
+
+-- What one crossing at a rate leaves of an edge, never below 0.
+unfoldable pub spend : Float → Float → Float
+spend rate residual = larger (residual ⊖ rate) nought
+
+-- ---- the whole
+
+-- How many have yet to be frozen.
+unfoldable pub num-unfrozen : Filling → ℕ
+num-unfrozen f = count (λ s. s .unfrozen) (f .seats)
+
+-- What follows takes the way to read a transfer's path.
 module _ (path : Transfer → List ℕ) where
   -- A slot as the filling begins: who takes no part keeps the rate it had.
   unfoldable pub seat : Transfer → Seat
@@ -60,51 +109,15 @@ module _ (path : Transfer → List ℕ) where
   unfoldable pub start : List Edge → List Transfer → Filling
   start edges slots = record { seats = map seat slots; residual = map (λ e. e .capacity) edges; rounds = 0 }
 
-  -- ---- a round: what it decides
+  -- ---- a round
 
   -- An edge's load: its crossings by unfrozen transfers, repeats counted.
   unfoldable pub load : List Seat → ℕ → ℕ
   load seats e = sum (map (λ s. cond (s .unfrozen) (crossings e (path (s .transfer))) 0) seats)
 
-  -- The share of edge e: what is left of its capacity over its load, if it has one.
-  unfoldable pub share : ℕ → Float → ℕ → Best
-  share e residual zero = Nobody
-  share e residual (suc n) = At e (residual ⊘ whole (suc n))
-
   -- The edge with the smallest share, the lowest number at equality.
   unfoldable pub winning-edge : Filling → Best
   winning-edge f = tightest (map-from 0 (λ e r. share e r (load (f .seats) e)) (f .residual))
-
-  -- The cap of the transfer in slot i, if it is unfrozen and has one.
-  unfoldable pub own-cap : ℕ → Bool → Cap → Best
-  own-cap i false cap = Nobody
-  own-cap i true Uncapped = Nobody
-  own-cap i true (AtMost c) = At i c
-
-  -- The smallest cap among the unfrozen, the lowest slot at equality.
-  unfoldable pub smallest-cap : Filling → Best
-  smallest-cap f = tightest (map-from 0 (λ i s. own-cap i (s .unfrozen) (s .transfer .«rate_cap»)) (f .seats))
-
-  -- The smallest cap wins over the smallest share only where it is strictly below it.
-  unfoldable pub verdict : Best → Best → Verdict
-  verdict Nobody Nobody = ByNobody
-  verdict Nobody (At e x) = ByEdge e x
-  verdict (At i c) Nobody = ByCap i c
-  verdict (At i c) (At e x) = cond (c ≺ x) (ByCap i c) (ByEdge e x)
-
-  -- ---- a round: what it does
-
-  -- The rate that a verdict gives.
-  unfoldable pub rate-by : Verdict → Float
-  rate-by (ByCap i c) = c
-  rate-by (ByEdge e x) = x
-  rate-by ByNobody = nought
-
-  -- Whether a verdict names the transfer in slot i on that path: the slot itself, or all that cross the edge.
-  unfoldable pub names : Verdict → ℕ → List ℕ → Bool
-  names (ByCap j c) i p = eqb i j
-  names (ByEdge e x) i p = any (eqb e) p
-  names ByNobody i p = false
 
   -- Whether a verdict freezes the seat in slot i.
   unfoldable pub freezes : Verdict → ℕ → Seat → Bool
@@ -118,10 +131,6 @@ module _ (path : Transfer → List ℕ) where
   unfoldable pub crossings-frozen : Verdict → List Seat → ℕ → ℕ
   crossings-frozen v seats e = sum (map-from 0 (λ i s. cond (freezes v i s) (crossings e (path (s .transfer))) 0) seats)
 
-  -- What one crossing at a rate leaves of an edge, never below 0.
-  unfoldable pub spend : Float → Float → Float
-  spend rate residual = larger (residual ⊖ rate) nought
-
   -- One round: the verdict, those it names frozen, and each edge less their rate once for each of their crossings.
   unfoldable pub round : Filling → Filling
   round f =
@@ -133,10 +142,6 @@ module _ (path : Transfer → List ℕ) where
       }
 
   -- ---- the rounds
-
-  -- How many have yet to be frozen.
-  unfoldable pub num-unfrozen : Filling → ℕ
-  num-unfrozen f = count (λ s. s .unfrozen) (f .seats)
 
   -- Rounds until none is unfrozen, n of them at the most.
   unfoldable pub rounds-until : ℕ → Filling → Filling

@@ -1,6 +1,5 @@
 -- What is promised of every history of calls on a fresh simulator, refused calls among them. Statements only.
 use mathlib.Core.Path.{_≡_}
-use mathlib.Core.Bool.{true}
 use mathlib.Core.List.{List}
 use lib.Dec.{T}
 use Rattle.rules.specs.declared.Owner.{Owner}

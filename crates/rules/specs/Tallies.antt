@@ -5,7 +5,6 @@ use mathlib.Core.Bool.{Bool, true, false, not, cond}
 use mathlib.Core.List.{List, [], _∷_, _++_, map, foldl}
 use lib.Dec.{eqb}
 use Rattle.rules.specs.declared.Owner.{Owner}
-use Rattle.rules.specs.declared.Completion.{Completion}
 use Rattle.rules.specs.declared.Answer.{Answer}
 use Rattle.rules.specs.declared.Answer.the-variants.{Done, Added, Listed, Nothing, Unknown, Value, Wait, Refused}
 use Rattle.rules.specs.declared.Flows.{Flows}
@@ -123,7 +122,7 @@ ledger calls = notes fresh calls nothing-noted
 
 -- Whether a kind is the owner's.
 abbrev pub kind-of : Owner → ℕ → Bool
-kind-of owner kind = eqb (owner-kind owner) kind
+kind-of owner kind = eqb kind (owner-kind owner)
 
 -- How many of some kinds are the owner's.
 abbrev pub number-of : Owner → List ℕ → ℕ

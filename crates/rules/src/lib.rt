@@ -1,7 +1,7 @@
 // The types of the simulator, its tolerance, and the fresh state. What is right of them stands in specs/.
 ghost use mathlib.Core.Path.{_≡_};
 ghost use Rattle.rules.specs.Tolerance.{eps, default-tolerance};
-ghost use Rattle.rules.specs.Records.{fresh};
+ghost use Rattle.rules.specs.Records.{free, fresh};
 ghost use Rattle.rules.specs.Invariant.{Invariant};
 
 // Who a transfer belongs to, and so which queue its completion waits in.
@@ -189,18 +189,12 @@ impl Tolerance {
     }
 }
 
-impl Flows {
-    // The simulator before any call: every slot free, the clock at 0, nothing stale.
-    pub fn new() -> Flows
-        ensures exactly { λ r. ⌜ r ≡ fresh ⌝ }
-        ensures sound { λ r. ⌜ Invariant r ⌝ }
+impl Transfer {
+    // A free slot.
+    pub fn free() -> Transfer
+        ensures { λ r. ⌜ r ≡ free ⌝ }
     {
-        let edge = Edge {
-            capacity: 0.0,
-            bytes_moved: 0.0,
-            busy_transfer_seconds: 0.0,
-        };
-        let free = Transfer {
+        Transfer {
             taken: false,
             id: 0,
             owner: Owner::Handoff,
@@ -213,7 +207,22 @@ impl Flows {
             rate_cap: Cap::Uncapped,
             rate: 0.0,
             last_update: 0.0,
+        }
+    }
+}
+
+impl Flows {
+    // The simulator before any call: every slot free, the clock at 0, nothing stale.
+    pub fn new() -> Flows
+        ensures exactly { λ r. ⌜ r ≡ fresh ⌝ }
+        ensures sound { λ r. ⌜ Invariant r ⌝ }
+    {
+        let edge = Edge {
+            capacity: 0.0,
+            bytes_moved: 0.0,
+            busy_transfer_seconds: 0.0,
         };
+        let free = Transfer::free();
         let none = Tally {
             submitted: 0,
             completed: 0,

@@ -1,0 +1,24 @@
+-- `pass_time` lets the integrals grow where time passes, by a table that says how often each edge is crossed, and moves the clock. Assumes nothing.
+use borrow.Author.Needs.{needs}
+use mathlib.Core.Logic.{⊎-elim}
+use Rattle.doubles.specs.Doubles.{_⊖_}
+use Rattle.rules.specs.Records.{with-edges, with-clock, at-time}
+use Rattle.rules.specs.Clock.{pass-time}
+use Rattle.clock.proofs.Busy.{busy-by-load}
+use Rattle.clock.proofs.pass_time.Statement.{statement}
+use Rattle.clock.proofs.pass_time.Tie as tie
+
+gain-busy-all-requires : tie.Need-gain-busy-all-requires
+gain-busy-all-requires c κs = search needs
+
+returns : tie.Need-returns
+unfolding pass-time at-time with-clock with-edges
+returns c =
+    let start = c .before .before .before in
+    ⊎-elim
+    (λ w. rw (w .3, w .0 .taken, w .2 .ensures, busy-by-load (start .args .flows) (start .pre .0) (start .args .load) (start .pre .1) (start .args .until ⊖ start .args .flows .clock .now)))
+    (λ w. rw (w .1, w .0 .left))
+    (c .if1 .came)
+
+pub pass-time-spec : {M : Type 1} → statement M
+pass-time-spec = tie.close (tie.spec gain-busy-all-requires returns)

@@ -1,0 +1,17 @@
+pub mod Counting
+pub mod Tightest
+pub mod Loads
+pub mod Choice
+pub mod Rounds
+pub mod Start
+pub mod Account
+pub mod Edge
+pub mod Sums
+pub mod Verdicts
+pub mod Settled
+pub mod Freezing
+pub mod Begins
+pub mod Ended
+pub mod Filled
+pub mod Rates
+pub mod Fair

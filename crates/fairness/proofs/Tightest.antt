@@ -1,0 +1,125 @@
+-- The tightest of some candidates is one of them, is nobody only where all are, and is not above any. Assumes nothing.
+use mathlib.Core.Path.{_≡_, refl, sym, _∙_}
+use mathlib.Core.Logic.{_⊎_, inl, inr}
+use mathlib.Core.Bool.{Bool, true, false, cond}
+use mathlib.Core.List.{List, [], _∷_, foldl}
+use Prim.Native.Nat.{ℕ, zero, suc, _+_, _≤_, _<_}
+use native.Mathlib.Nat.{le-refl, le-trans, le-of-lt}
+use native.Mathlib.Omega.{arith}
+use lib.ListN.{length, getD}
+use lib.Ieee.{Float}
+use Rattle.doubles.specs.Doubles.{_≺_, Plain}
+use Rattle.doubles.specs.Exact.{exact}
+use Rattle.doubles.proofs.Tests.{passed, failed}
+use Rattle.doubles.proofs.Ordered.{lt→exact, le→exact, not-below}
+use Rattle.rules.specs.declared.Best.{Best}
+use Rattle.rules.specs.declared.Best.the-variants.{At, Nobody}
+use Rattle.rules.specs.Lists.{map-from}
+use Rattle.rules.specs.Filling.{tighter}
+
+-- ---- one of them
+
+tighter-either : (x y : Best) → (tighter x y ≡ x) ⊎ (tighter x y ≡ y)
+unfolding tighter
+tighter-either Nobody y = inr refl
+tighter-either (At i a) Nobody = inl refl
+tighter-either (At i a) (At j b) = go (b ≺ a)
+  where
+    go : (c : Bool) → (cond c (At j b) (At i a) ≡ At i a) ⊎ (cond c (At j b) (At i a) ≡ At j b)
+    go true = inr refl
+    go false = inl refl
+
+module _ {A : Type 0} (g : ℕ → A → Best) where
+  pub tightest-among : (n : ℕ) (xs : List A) (d : A) (b : Best) → (foldl tighter b (map-from n g xs) ≡ b) ⊎ ((j : ℕ) × (j < length xs) × (foldl tighter b (map-from n g xs) ≡ g (n + j) (getD xs j d)))
+  unfolding map-from
+  tightest-among n [] d b = inl refl
+  tightest-among n (x ∷ xs) d b = go (tightest-among (suc n) xs d (tighter b (g n x))) (tighter-either b (g n x))
+    where
+      go : (foldl tighter (tighter b (g n x)) (map-from (suc n) g xs) ≡ tighter b (g n x)) ⊎ ((j : ℕ) × (j < length xs) × (foldl tighter (tighter b (g n x)) (map-from (suc n) g xs) ≡ g (suc n + j) (getD xs j d)))
+          → (tighter b (g n x) ≡ b) ⊎ (tighter b (g n x) ≡ g n x)
+          → (foldl tighter (tighter b (g n x)) (map-from (suc n) g xs) ≡ b) ⊎ ((j : ℕ) × (j < length (x ∷ xs)) × (foldl tighter (tighter b (g n x)) (map-from (suc n) g xs) ≡ g (n + j) (getD (x ∷ xs) j d)))
+      go (inl e) (inl e′) = inl (e ∙ e′)
+      go (inl e) (inr e′) = let z : n + 0 ≡ n = omega arith in inr (0, omega arith, rw z (e ∙ e′))
+      go (inr (j, h, e)) e′ = let z : n + suc j ≡ suc n + j = omega arith in inr (suc j, omega arith, rw z e)
+
+-- ---- nobody only of nobodies
+
+pub no-candidate : {A : Type 0} {i : ℕ} {a : Float} → Nobody ≡ At i a → A
+no-candidate e = let z : _≡_ {A = ℕ} 0 1 = cc in absurd (omega arith)
+
+tighter-nobody : (x y : Best) → tighter x y ≡ Nobody → (x ≡ Nobody) × (y ≡ Nobody)
+unfolding tighter
+tighter-nobody Nobody y e = (refl, e)
+tighter-nobody (At i a) Nobody e = no-candidate (sym e)
+tighter-nobody (At i a) (At j b) e = go (b ≺ a) e
+  where
+    go : (c : Bool) → cond c (At j b) (At i a) ≡ Nobody → (At i a ≡ Nobody) × (At j b ≡ Nobody)
+    go true e = no-candidate (sym e)
+    go false e = no-candidate (sym e)
+
+module _ {A : Type 0} (g : ℕ → A → Best) where
+  pub all-nobody : (n : ℕ) (xs : List A) (d : A) (b : Best) → foldl tighter b (map-from n g xs) ≡ Nobody → (b ≡ Nobody) × ((j : ℕ) → j < length xs → g (n + j) (getD xs j d) ≡ Nobody)
+  unfolding map-from
+  all-nobody n [] d b e = (e, λ j h. absurd (omega arith))
+  all-nobody n (x ∷ xs) d b e =
+      let r = all-nobody (suc n) xs d (tighter b (g n x)) e in
+      let both = tighter-nobody b (g n x) (r .0) in
+      (both .0, at (both .1) (r .1))
+    where
+      at : g n x ≡ Nobody → ((j : ℕ) → j < length xs → g (suc n + j) (getD xs j d) ≡ Nobody) → (j : ℕ) → j < length (x ∷ xs) → g (n + j) (getD (x ∷ xs) j d) ≡ Nobody
+      at here rest zero h = let z : n + 0 ≡ n = omega arith in rw z here
+      at here rest (suc j) h = let z : n + suc j ≡ suc n + j = omega arith in rw z (rest j (omega arith))
+
+-- ---- not above any
+
+-- a candidate's value, where there is one, is plain
+abbrev pub PlainBest : Best → Type 0
+PlainBest Nobody = Unit {0}
+PlainBest (At i x) = Plain x
+
+-- the first is a candidate no greater than the second, unless that is nobody
+abbrev pub Least : Best → Best → Type 0
+Least b Nobody = Unit {0}
+Least Nobody (At j y) = ⊥
+Least (At i x) (At j y) = exact x ≤ exact y
+
+least-trans : (a b c : Best) → Least a b → Least b c → Least a c
+least-trans a b Nobody h k = tt
+least-trans a Nobody (At l z) h k = absurd k
+least-trans Nobody (At j y) (At l z) h k = absurd h
+least-trans (At i x) (At j y) (At l z) h k = le-trans h k
+
+least-own : (a : Best) → Least a a
+least-own Nobody = tt
+least-own (At i x) = le-refl (exact x)
+
+tighter-least : (a b : Best) → PlainBest a → PlainBest b → PlainBest (tighter a b) × Least (tighter a b) a × Least (tighter a b) b
+unfolding tighter
+tighter-least Nobody b p q = (q, tt, least-own b)
+tighter-least (At i x) Nobody p q = (p, le-refl (exact x), tt)
+tighter-least (At i x) (At j y) p q = go (y ≺ x) refl
+  where
+    go : (c : Bool) → (y ≺ x) ≡ c → PlainBest (cond c (At j y) (At i x)) × Least (cond c (At j y) (At i x)) (At i x) × Least (cond c (At j y) (At i x)) (At j y)
+    go true e = (q, le-of-lt (lt→exact q p (passed e)), le-refl (exact y))
+    go false e = (p, le-refl (exact x), le→exact p q (not-below p q (failed e)))
+
+module _ {A : Type 0} (g : ℕ → A → Best) where
+  pub tightest-least : (n : ℕ) (xs : List A) (d : A) (b : Best) → PlainBest b → ((j : ℕ) → j < length xs → PlainBest (g (n + j) (getD xs j d)))
+      → PlainBest (foldl tighter b (map-from n g xs)) × Least (foldl tighter b (map-from n g xs)) b × ((j : ℕ) → j < length xs → Least (foldl tighter b (map-from n g xs)) (g (n + j) (getD xs j d)))
+  unfolding map-from
+  tightest-least n [] d b p q = (p, least-own b, λ j h. absurd (omega arith))
+  tightest-least n (x ∷ xs) d b p q =
+      let z : n + 0 ≡ n = omega arith in
+      let here : PlainBest (g n x) = rw z at (q 0 (omega arith)) in
+      let t = tighter-least b (g n x) p here in
+      let r = tightest-least (suc n) xs d (tighter b (g n x)) (t .0) (λ j h. later j (q (suc j) (omega arith))) in
+      let w = foldl tighter (tighter b (g n x)) (map-from (suc n) g xs) in
+      (r .0, least-trans w (tighter b (g n x)) b (r .1) (t .1), at (least-trans w (tighter b (g n x)) (g n x) (r .1) (t .2)) (r .2))
+    where
+      later : (j : ℕ) → PlainBest (g (n + suc j) (getD xs j d)) → PlainBest (g (suc n + j) (getD xs j d))
+      later j p = let z : n + suc j ≡ suc n + j = omega arith in rw z at p
+
+      at : Least (foldl tighter (tighter b (g n x)) (map-from (suc n) g xs)) (g n x) → ((j : ℕ) → j < length xs → Least (foldl tighter (tighter b (g n x)) (map-from (suc n) g xs)) (g (suc n + j) (getD xs j d)))
+          → (j : ℕ) → j < length (x ∷ xs) → Least (foldl tighter (tighter b (g n x)) (map-from (suc n) g xs)) (g (n + j) (getD (x ∷ xs) j d))
+      at here rest zero h = let z : n + 0 ≡ n = omega arith in rw z here
+      at here rest (suc j) h = let z : n + suc j ≡ suc n + j = omega arith in rw z (rest j (omega arith))

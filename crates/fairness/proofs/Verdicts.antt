@@ -1,0 +1,77 @@
+-- What a round decides, as the account needs it: its rate is no more than the share of any loaded edge nor than the cap of anybody it freezes, and whoever it freezes runs
+-- at its own cap or at the share of an edge all of whose load is frozen with it. Assumes nothing.
+use mathlib.Core.Path.{_≡_, refl}
+use mathlib.Core.Logic.{_⊎_, inl, inr}
+use mathlib.Core.Bool.{true}
+use mathlib.Core.List.{List}
+use Prim.Native.Nat.{ℕ, _^_, _≤_, _<_}
+use native.Mathlib.Omega.{arith}
+use lib.ListN.{length}
+use lib.Ieee.{Float}
+use borrow.Author.Tests.{eqb-true}
+use Rattle.doubles.specs.Doubles.{Plain}
+use Rattle.doubles.specs.Exact.{exact}
+use Rattle.doubles.proofs.Tests.{passed}
+use Rattle.doubles.proofs.Ordered.{lt→exact}
+use Rattle.rules.specs.declared.Cap.the-variants.{AtMost}
+use Rattle.rules.specs.declared.Transfer.{Transfer}
+use Rattle.rules.specs.declared.Verdict.{Verdict}
+use Rattle.rules.specs.declared.Verdict.the-variants.{ByCap, ByEdge, ByNobody}
+use Rattle.rules.specs.Lists.{crossings}
+use Rattle.rules.specs.Filling.{Filling, rate-by, names, freezes}
+use Rattle.fairness.specs.Ready.{seat-at}
+use Rattle.fairness.proofs.Counting.{crosses-any, any-crosses}
+use Rattle.fairness.proofs.Loads.{winning-is, smallest-is, Decided}
+use Rattle.fairness.proofs.Rounds.{freezes-both}
+use Rattle.fairness.proofs.Choice.{left-of, load-of, share-of, winning-least, winning-plain, no-smaller-cap}
+
+module _ (path : Transfer → List ℕ) where
+  -- edge e gives its share x to seat i and to all others of its load
+  pub record SharesOut (f : Filling) (v : Verdict) (x : Float) (i : ℕ) : Type 0 where
+    pub edge : ℕ
+    pub known : edge < length (f .residual)
+    pub crossed : 0 < crossings edge (path (seat-at f i .transfer))
+    pub is-share : x ≡ share-of path f edge
+    pub to-all : (j : ℕ) → seat-at f j .unfrozen ≡ true → 0 < crossings edge (path (seat-at f j .transfer)) → freezes path v j (seat-at f j) ≡ true
+
+  pub record Chosen (f : Filling) (v : Verdict) (x : Float) : Type 0 where
+    pub plain : Plain x
+    pub least : (e : ℕ) → e < length (f .residual) → 0 < load-of path f e → exact x ≤ exact (share-of path f e)
+    pub under-cap : (i : ℕ) → freezes path v i (seat-at f i) ≡ true → (c : Float) → seat-at f i .transfer .«rate_cap» ≡ AtMost c → exact x ≤ exact c
+    pub why : (i : ℕ) → freezes path v i (seat-at f i) ≡ true → (seat-at f i .transfer .«rate_cap» ≡ AtMost x) ⊎ SharesOut f v x i
+
+  module _ (f : Filling) (plain-left : (e : ℕ) → e < length (f .residual) → Plain (left-of path f e)) (few : (e : ℕ) → e < length (f .residual) → load-of path f e ≤ 2 ^ 53)
+      (plain-caps : (i : ℕ) → seat-at f i .unfrozen ≡ true → (c : Float) → seat-at f i .transfer .«rate_cap» ≡ AtMost c → Plain c) where
+    pub chosen : (v : Verdict) → Decided path f v → Chosen f v (rate-by v)
+    unfolding rate-by names freezes
+    chosen (ByCap i c) d =
+        let smallest = smallest-is path f i c (d .0) in
+        let e = d .1 .0 in
+        let x = d .1 .1 in
+        let p : Plain c = plain-caps i (smallest .waits) c (smallest .is-cap) in
+        let q : Plain x = winning-plain path f plain-left few e x (d .1 .2) in
+        record {
+          plain = p;
+          least = λ e′ known loaded. omega (arith, lt→exact p q (passed (d .1 .3)), winning-least path f plain-left few e x (d .1 .2) e′ known loaded);
+          under-cap = λ j h b k. own j b (eqb-true j i (freezes-both path (ByCap i c) j (seat-at f j) h .1)) k (smallest .is-cap);
+          why = λ j h. inl (rw (eqb-true j i (freezes-both path (ByCap i c) j (seat-at f j) h .1)) (smallest .is-cap));
+        }
+      where
+        own : (j : ℕ) (b : Float) → j ≡ i → seat-at f j .transfer .«rate_cap» ≡ AtMost b → seat-at f i .transfer .«rate_cap» ≡ AtMost c → exact c ≤ exact b
+        own j b same k k′ = let z : seat-at f i .transfer .«rate_cap» ≡ AtMost b = rw same at k in let w : c ≡ b = cc in rw w (omega arith)
+    chosen (ByEdge e x) d =
+        let wins = winning-is path f e x (d .0) in
+        let p : Plain x = winning-plain path f plain-left few e x (d .0) in
+        record {
+          plain = p;
+          least = winning-least path f plain-left few e x (d .0);
+          under-cap = λ j h b k. no-smaller-cap path f plain-caps x p (d .1) j (freezes-both path (ByEdge e x) j (seat-at f j) h .0) b k;
+          why = λ j h. inr (record {
+            edge = e;
+            known = wins .known;
+            crossed = any-crosses e (path (seat-at f j .transfer)) (freezes-both path (ByEdge e x) j (seat-at f j) h .1);
+            is-share = wins .is-share;
+            to-all = λ l u c. rw (crosses-any e (path (seat-at f l .transfer)) c, u) refl;
+          });
+        }
+    chosen ByNobody d = absurd d

@@ -1,0 +1,33 @@
+-- What a filling under way must keep so that every round finds somebody to freeze. Definitions only.
+use Prim.Native.Nat.{ℕ, _<_}
+use mathlib.Core.Path.{_≡_}
+use mathlib.Core.Bool.{true, false}
+use mathlib.Core.List.{List}
+use lib.ListN.{length, getD}
+use lib.Ieee.{Float}
+use Rattle.rules.specs.declared.Transfer.{Transfer}
+use Rattle.rules.specs.declared.Seat.{Seat}
+use Rattle.rules.specs.Records.{free}
+use Rattle.rules.specs.Filling.{Filling, with-rate}
+
+-- What is read past the last seat.
+abbrev pub no-seat : Seat
+no-seat = record { transfer = free; unfrozen = false }
+
+-- Seat number i.
+abbrev pub seat-at : Filling → ℕ → Seat
+seat-at f i = getD (f .seats) i no-seat
+
+-- A path that a round can find: not empty, and over edges below n.
+pub record Rides (n : ℕ) (path : List ℕ) : Type 0 where
+  pub some : 0 < length path
+  pub known : (k : ℕ) → k < length path → getD path k 0 < n
+
+module _ (path : Transfer → List ℕ) where
+  -- A transfer keeps its path when it is given a rate.
+  abbrev pub KeepsPath : Type 0
+  KeepsPath = (rate : Float) (t : Transfer) → path (with-rate rate t) ≡ path t
+
+  -- Whoever is unfrozen has a path over the edges that the filling knows.
+  abbrev pub Ready : Filling → Type 0
+  Ready f = (i : ℕ) → seat-at f i .unfrozen ≡ true → Rides (length (f .residual)) (path (seat-at f i .transfer))

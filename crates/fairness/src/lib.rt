@@ -1,0 +1,1 @@
+// Laws only: what every filling does. They stand in proofs/.

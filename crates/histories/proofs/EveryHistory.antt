@@ -1,0 +1,69 @@
+-- After every history of calls the simulator agrees with the notes of whoever listened, since the fresh one does and each call keeps it so; and where they agree, the
+-- invariant's balance is the notes'. Assumes nothing.
+use mathlib.Core.Path.{_≡_, refl, sym, ap, _∙_}
+use mathlib.Core.List.{List, [], _∷_}
+use native.Mathlib.Omega.{arith}
+use lib.Dec.{T}
+use lib.Ieee.Fits.{and-l, and-r}
+use Rattle.rules.specs.declared.Owner.{Owner}
+use Rattle.rules.specs.declared.Owner.the-variants.{Worker, Handoff, Write}
+use Rattle.rules.specs.declared.Tally.{Tally}
+use Rattle.rules.specs.declared.Flows.{Flows}
+use Rattle.rules.specs.Lists.{count, all}
+use Rattle.rules.specs.Records.{fresh, no-tally, owner-kind, tally-of}
+use Rattle.rules.specs.Histories.{Call, typed, call, run}
+use Rattle.rules.specs.Invariant.{Invariant, of-kind}
+use Rattle.rules.specs.Tallies.{Ledger, nothing-noted, noted, notes, ledger, kind-of, open-of}
+use Rattle.rules.specs.Promises.{AlwaysTallied}
+use Rattle.rules.proofs.Fresh.{fresh-keeps}
+use Rattle.keeps.proofs.Always.{call-keeps, always-sound}
+use Rattle.histories.proofs.Agreement.{Agrees}
+use Rattle.histories.proofs.Noted.{noted-agrees}
+
+-- ---- at the start
+
+fresh-tally : (owner : Owner) → tally-of owner (fresh .totals) ≡ no-tally
+unfolding tally-of
+fresh-tally (Worker n) = refl
+fresh-tally Handoff = refl
+fresh-tally Write = refl
+
+fresh-agrees : Agrees fresh nothing-noted
+unfolding count
+fresh-agrees = record {
+  submitted = λ owner. ap (λ (y : Tally). y .submitted) (fresh-tally owner);
+  completed = λ owner. ap (λ (y : Tally). y .completed) (fresh-tally owner);
+  cancelled = λ owner. ap (λ (y : Tally). y .cancelled) (fresh-tally owner);
+  in-flight = λ p. refl;
+}
+
+-- ---- after every history
+
+notes-agree : (calls : List Call) → T (all typed calls) → (f : Flows) (l : Ledger) → Invariant f → Agrees f l → Agrees (run f calls) (notes f calls l)
+unfolding all run notes
+notes-agree [] h f l inv a = a
+notes-agree (c ∷ calls) h f l inv a =
+    let t = and-l (typed c) (all typed calls) h in
+    notes-agree calls (and-r (typed c) (all typed calls) h) (call c f .flows) (noted c (call c f .said) l) (call-keeps c f t inv) (noted-agrees c f l t inv a)
+
+-- whatever is asked of the entries in flight, the slots answer alike
+pub always-agrees : (calls : List Call) → T (all typed calls) → Agrees (run fresh calls) (ledger calls)
+always-agrees calls h = notes-agree calls h fresh nothing-noted fresh-keeps fresh-agrees
+
+agrees-by-kind : {f : Flows} {l : Ledger} → Agrees f l → (owner : Owner) → count (of-kind (owner-kind owner)) (f .«in_flight») ≡ open-of owner (l .in-flight)
+unfolding of-kind
+agrees-by-kind {f} a owner = sym (a .in-flight (λ e. kind-of owner (e .kind)))
+
+-- for each kind of owner, the notes balance and the counters say what they say
+pub always-tallied : AlwaysTallied
+always-tallied calls h owner =
+    let a = always-agrees calls h in
+    let balanced = always-sound calls h .balanced owner .accounted in
+    let by-kind = agrees-by-kind a owner in
+    record {
+      balance = omega (arith, balanced, by-kind, a .submitted owner, a .completed owner, a .cancelled owner);
+      submitted = a .submitted owner;
+      completed = a .completed owner;
+      cancelled = a .cancelled owner;
+      in-flight = by-kind;
+    }

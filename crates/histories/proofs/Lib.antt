@@ -1,0 +1,10 @@
+pub mod Counting
+pub mod Agreement
+pub mod Counters
+pub mod Slots
+pub mod Submitted
+pub mod Cancelled
+pub mod Listed
+pub mod Completed
+pub mod Noted
+pub mod EveryHistory

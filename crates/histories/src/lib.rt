@@ -1,0 +1,1 @@
+// Laws only: what holds after every history of calls. They stand in proofs/.

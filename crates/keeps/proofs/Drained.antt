@@ -1,0 +1,131 @@
+-- A simulator that has been drained to its clock: all facts of the invariant but those on rates, which going stale gives up. Every call that changes edges, slots or
+-- tallies does so between a drain and going stale, so what it keeps is stated of this. Assumes nothing.
+use Prim.Native.Nat.{ℕ, _+_, _^_, _≤_, _<_}
+use native.Mathlib.Omega.{arith}
+use mathlib.Core.Path.{_≡_, refl, sym, _∙_}
+use mathlib.Core.Bool.{Bool, true, true≢false}
+use mathlib.Core.List.{List, []}
+use lib.Dec.{T, eqb}
+use lib.ListN.{length}
+use lib.Ieee.{Float}
+use Rattle.doubles.specs.Doubles.{_≼_}
+use Rattle.rules.specs.declared.Owner.{Owner}
+use Rattle.rules.specs.declared.Transfer.{Transfer}
+use Rattle.rules.specs.declared.Completion.{Completion}
+use Rattle.rules.specs.declared.Tally.{Tally}
+use Rattle.rules.specs.declared.Totals.{Totals}
+use Rattle.rules.specs.declared.Flows.{Flows}
+use Rattle.rules.specs.Lists.{count, Each}
+use Rattle.rules.specs.Tolerance.{default-tolerance}
+use Rattle.rules.specs.Records.{max-slots, free, owner-kind, tally-of, with-clock, made-stale}
+use Rattle.rules.specs.Invariant.{Summed, SoundTransfer, SoundSlot, of-kind, Invariant}
+use Rattle.transfers.proofs.Routes.{route-more}
+use Rattle.keeps.proofs.Parts.{ClockSound, EdgesSound, QueueSound, CrowdSound, SlotsSound, TotalsSound, Parts, joined}
+
+-- All in flight have been drained to the time T.
+abbrev pub AllAt : Float → List Transfer → Type 0
+AllAt T slots = Each (λ t. t .taken ≡ true → t .«last_update» ≡ T) free slots
+
+-- Whether a completion's owner is of that kind.
+abbrev pub owed-by : ℕ → Completion → Bool
+owed-by k c = eqb (owner-kind (c .owner)) k
+
+-- A tally of an owner's kind while the completions `owed` have left their slots and are yet to be counted.
+pub record Owing (owed : List Completion) (slots : List Transfer) (owner : Owner) (y : Tally) : Type 0 where
+  pub accounted : y .submitted ≡ count (of-kind (owner-kind owner)) slots + y .completed + y .cancelled + count (owed-by (owner-kind owner)) owed
+  pub fits : y .submitted < 2 ^ 64
+  pub bytes : Summed (y .«bytes_submitted»)
+
+-- All that is counted, meanwhile.
+pub record AllOwing (owed : List Completion) (slots : List Transfer) (n : ℕ) (totals : Totals) : Type 0 where
+  pub room : count (λ t. t .taken) slots + n + length owed ≤ max-slots
+  pub reached : count (λ t. t .taken) slots ≤ totals .«peak_in_flight»
+  pub bound : totals .«peak_in_flight» ≤ max-slots
+  pub balanced : (owner : Owner) → Owing owed slots owner (tally-of owner totals)
+
+pub record Drained (owed : List Completion) (f : Flows) : Type 0 where
+  pub tolerance : f .tolerance ≡ default-tolerance
+  pub clock : ClockSound (f .clock)
+  pub edges : EdgesSound (f .edges) (f .«num_edges»)
+  pub queue : QueueSound (f .completed) (f .«num_completed»)
+  pub crowd : CrowdSound (f .«in_flight»)
+  pub each : Each (SoundSlot f) free (f .«in_flight»)
+  pub at-clock : AllAt (f .clock .now) (f .«in_flight»)
+  pub totals : AllOwing owed (f .«in_flight») (f .«num_completed») (f .totals)
+
+-- ---- nothing owed
+
+module _ {slots : List Transfer} {n : ℕ} {totals : Totals} where
+  pub owing-nothing : TotalsSound slots n totals → AllOwing [] slots n totals
+  unfolding count
+  owing-nothing t = record {
+    room = omega (arith, t .room);
+    reached = t .reached;
+    bound = t .bound;
+    balanced = λ owner. record { accounted = omega (arith, t .balanced owner .accounted); fits = t .balanced owner .fits; bytes = t .balanced owner .bytes };
+  }
+
+  pub nothing-owing : AllOwing [] slots n totals → TotalsSound slots n totals
+  unfolding count
+  nothing-owing t = record {
+    room = omega (arith, t .room);
+    reached = t .reached;
+    bound = t .bound;
+    balanced = λ owner. record { accounted = omega (arith, t .balanced owner .accounted); fits = t .balanced owner .fits; bytes = t .balanced owner .bytes };
+  }
+
+pub drained-parts : {f : Flows} → Parts f → AllAt (f .clock .now) (f .«in_flight») → Drained [] f
+drained-parts p at = record {
+  tolerance = p .tolerance;
+  clock = p .clock;
+  edges = p .edges;
+  queue = p .queue;
+  crowd = p .crowd;
+  each = p .slots .each;
+  at-clock = at;
+  totals = owing-nothing (p .totals);
+}
+
+-- ---- a transfer in another simulator
+
+module _ (f g : Flows) (more : f .«num_edges» ≤ g .«num_edges») {t : Transfer} where
+  pub sound-in : (T (t .«last_update» ≼ f .clock .now) → T (t .«last_update» ≼ g .clock .now)) → SoundTransfer f t → SoundTransfer g t
+  sound-in later s = record {
+    path = route-more more (s .path);
+    latency = s .latency;
+    bytes = s .bytes;
+    bytes-bound = s .bytes-bound;
+    cap = s .cap;
+    rate = s .rate;
+    rate-finite = s .rate-finite;
+    updated = s .updated;
+    updated-by-now = later (s .updated-by-now);
+  }
+
+  pub slot-in : (T (t .«last_update» ≼ f .clock .now) → T (t .«last_update» ≼ g .clock .now)) → SoundSlot f t → SoundSlot g t
+  slot-in later s = record { held = λ e. sound-in later (s .held e); blank = s .blank }
+
+-- a free slot is sound in any
+pub free-slot : (f : Flows) → SoundSlot f free
+free-slot f = record { held = λ e. absurd (true≢false (sym e)); blank = λ e. refl }
+
+-- ---- going stale
+
+-- Where all stand at the clock, the slots' facts are those of each.
+pub slots-at : {f : Flows} → Each (SoundSlot f) free (f .«in_flight») → AllAt (f .clock .now) (f .«in_flight») → SlotsSound f
+slots-at each at = record { each = each; together = λ i j a b. at i a ∙ sym (at j b); stale = λ e. at }
+
+pub made-stale-keeps : {f : Flows} → Drained [] f → Invariant (made-stale f)
+unfolding made-stale with-clock
+made-stale-keeps {f} d =
+    let g = made-stale f in
+    joined (record {
+      tolerance = d .tolerance;
+      clock = record { time = d .clock .time; next = d .clock .next; rounds = d .clock .rounds };
+      edges = d .edges;
+      queue = d .queue;
+      crowd = d .crowd;
+      slots = slots-at (λ i. slot-in f g (omega arith) (λ l. l) (d .each i)) (d .at-clock);
+      totals = nothing-owing (d .totals);
+      rates = record { right = λ e. absurd (true≢false e); few = λ e. absurd (true≢false e) };
+    })

@@ -1,0 +1,118 @@
+-- The invariant in parts, each about only the tables that it depends on, so that a call which leaves those alone keeps the part as it stands. Assumes nothing.
+use Prim.Native.Nat.{ℕ, _+_, _≤_, _<_}
+use mathlib.Core.Path.{_≡_}
+use mathlib.Core.Bool.{true, false, _&&_}
+use mathlib.Core.List.{List, map}
+use lib.Dec.{ltb}
+use lib.ListN.{length, getD}
+use Rattle.rules.specs.declared.Owner.{Owner}
+use Rattle.rules.specs.declared.Edge.{Edge}
+use Rattle.rules.specs.declared.Transfer.{Transfer}
+use Rattle.rules.specs.declared.Completion.{Completion}
+use Rattle.rules.specs.declared.Totals.{Totals}
+use Rattle.rules.specs.declared.EdgeLoad.{EdgeLoad}
+use Rattle.rules.specs.declared.Clock.{Clock}
+use Rattle.rules.specs.declared.Flows.{Flows}
+use Rattle.rules.specs.Lists.{count, sum, Each, map-from}
+use Rattle.rules.specs.Tolerance.{default-tolerance}
+use Rattle.rules.specs.Records.{max-edges, max-slots, no-edge, free, no-completion, own-path, counts-in-loads, crossings-by, num-in-flight, before, tally-of}
+use Rattle.rules.specs.Clock.{edge-loads}
+use Rattle.rules.specs.Invariant.{ClockTime, SoundNext, SoundEdge, SoundSlot, Balanced, Invariant}
+
+-- The time, and what the last filling left beside it.
+pub record ClockSound (clock : Clock) : Type 0 where
+  pub time : ClockTime (clock .now)
+  pub next : SoundNext (clock .«next_done_at»)
+  pub rounds : clock .rounds ≤ max-slots
+
+-- A table with n edges in it.
+pub record EdgesSound (edges : List Edge) (n : ℕ) : Type 0 where
+  pub places : length edges ≡ max-edges
+  pub few : n ≤ max-edges
+  pub sound : Each SoundEdge no-edge edges
+  pub blank : (e : ℕ) → n ≤ e → getD edges e no-edge ≡ no-edge
+
+-- A table with n completions waiting in it.
+pub record QueueSound (table : List Completion) (n : ℕ) : Type 0 where
+  pub places : length table ≡ max-slots
+  pub ordered : (i j : ℕ) → i < j → j < n → before (getD table i no-completion) (getD table j no-completion) ≡ true
+  pub blank : (i : ℕ) → n ≤ i → getD table i no-completion ≡ no-completion
+
+-- Who is in flight, whatever has become of them: ids and paths.
+pub record CrowdSound (slots : List Transfer) : Type 0 where
+  pub places : length slots ≡ max-slots
+  pub ids-differ : (i j : ℕ) → getD slots i free .taken ≡ true → getD slots j free .taken ≡ true → getD slots i free .id ≡ getD slots j free .id → i ≡ j
+  pub path-room : sum (map (λ t. length (own-path t)) slots) ≤ 2048
+
+-- Where each stands: its amounts, and the time to which it has been drained.
+pub record SlotsSound (f : Flows) : Type 0 where
+  pub each : Each (SoundSlot f) free (f .«in_flight»)
+  pub together : (i j : ℕ) → getD (f .«in_flight») i free .taken ≡ true → getD (f .«in_flight») j free .taken ≡ true → getD (f .«in_flight») i free .«last_update» ≡ getD (f .«in_flight») j free .«last_update»
+  pub stale : f .clock .«rates_dirty» ≡ true → Each (λ t. t .taken ≡ true → t .«last_update» ≡ f .clock .now) free (f .«in_flight»)
+
+-- What has been counted, beside n completions that wait.
+pub record TotalsSound (slots : List Transfer) (n : ℕ) (totals : Totals) : Type 0 where
+  pub room : count (λ t. t .taken) slots + n ≤ max-slots
+  pub reached : count (λ t. t .taken) slots ≤ totals .«peak_in_flight»
+  pub bound : totals .«peak_in_flight» ≤ max-slots
+  pub balanced : (owner : Owner) → Balanced slots owner (tally-of owner totals)
+
+-- The crossings of each of n edges by those in flight.
+abbrev pub loads : List Transfer → List Edge → ℕ → EdgeLoad
+loads slots edges n = record { load = map-from 0 (λ e edge. crossings-by counts-in-loads own-path slots e) edges; len = n }
+
+-- What a filling left, while it is not stale.
+pub record RatesSound (clock : Clock) (load : EdgeLoad) (slots : List Transfer) (edges : List Edge) (n : ℕ) : Type 0 where
+  pub right : clock .«rates_dirty» ≡ false → load ≡ loads slots edges n
+  pub few : clock .«rates_dirty» ≡ false → clock .rounds ≤ count (λ t. t .taken && ltb 0 (t .path .len)) slots
+
+pub record Parts (f : Flows) : Type 0 where
+  pub tolerance : f .tolerance ≡ default-tolerance
+  pub clock : ClockSound (f .clock)
+  pub edges : EdgesSound (f .edges) (f .«num_edges»)
+  pub queue : QueueSound (f .completed) (f .«num_completed»)
+  pub crowd : CrowdSound (f .«in_flight»)
+  pub slots : SlotsSound f
+  pub totals : TotalsSound (f .«in_flight») (f .«num_completed») (f .totals)
+  pub rates : RatesSound (f .clock) (f .«edge_load») (f .«in_flight») (f .edges) (f .«num_edges»)
+
+pub parts : {f : Flows} → Invariant f → Parts f
+unfolding num-in-flight edge-loads
+parts inv = record {
+  tolerance = inv .tolerance;
+  clock = record { time = inv .clock; next = inv .next-done; rounds = inv .rounds-bound };
+  edges = record { places = inv .edge-places; few = inv .few-edges; sound = inv .edges; blank = inv .edges-blank };
+  queue = record { places = inv .queue-places; ordered = inv .queue-ordered; blank = inv .queue-blank };
+  crowd = record { places = inv .slot-places; ids-differ = inv .ids-differ; path-room = inv .path-room };
+  slots = record { each = inv .slots; together = inv .drained-together; stale = inv .stale-drained };
+  totals = record { room = inv .room; reached = inv .peak-reached; bound = inv .peak-bound; balanced = inv .balanced };
+  rates = record { right = inv .load-right; few = inv .few-rounds };
+}
+
+pub joined : {f : Flows} → Parts f → Invariant f
+unfolding num-in-flight edge-loads
+joined p = record {
+  edge-places = p .edges .places;
+  slot-places = p .crowd .places;
+  queue-places = p .queue .places;
+  clock = p .clock .time;
+  next-done = p .clock .next;
+  tolerance = p .tolerance;
+  few-edges = p .edges .few;
+  edges = p .edges .sound;
+  edges-blank = p .edges .blank;
+  slots = p .slots .each;
+  ids-differ = p .crowd .ids-differ;
+  drained-together = p .slots .together;
+  stale-drained = p .slots .stale;
+  path-room = p .crowd .path-room;
+  queue-ordered = p .queue .ordered;
+  queue-blank = p .queue .blank;
+  room = p .totals .room;
+  peak-reached = p .totals .reached;
+  peak-bound = p .totals .bound;
+  balanced = p .totals .balanced;
+  load-right = p .rates .right;
+  few-rounds = p .rates .few;
+  rounds-bound = p .clock .rounds;
+}

@@ -1,0 +1,83 @@
+-- A call that says no has left the simulator as it was: refusing hands back what came in, and so do a cancel that finds no such id and a take that finds nothing. Assumes
+-- nothing.
+use Prim.Native.Nat.{ℕ}
+use mathlib.Core.Path.{_≡_, refl}
+use mathlib.Core.Bool.{Bool, true, false, cond}
+use mathlib.Core.List.{List, [], _∷_}
+use lib.Dec.{T}
+use lib.Ieee.{Float}
+use Rattle.doubles.specs.Doubles.{read-zero}
+use Rattle.rules.specs.declared.Owner.{Owner}
+use Rattle.rules.specs.declared.Answer.the-variants.{Done, Listed, Unknown}
+use Rattle.rules.specs.declared.Outcome.{Outcome}
+use Rattle.rules.specs.declared.Flows.{Flows}
+use Rattle.rules.specs.Records as Records
+use Rattle.rules.specs.Clock.{ensure-rates, pass-time, drain-to}
+use Rattle.rules.specs.Refusals.{Cause, refusing, answering, refused, Lent, lent, refused-lent}
+use Rattle.rules.specs.Queue as Queue
+use Rattle.rules.specs.Calls as Calls
+use Rattle.rules.specs.Histories.{advance, submit, cancel, add-edge, widen, take-completed, owners-with-completions, next-completion-delay, estimate-new, estimate-remaining, mean-in-flight, rate, edge, contains, rounds, lent-buffer, call}
+use Rattle.rules.specs.Refused.{is-no, says-no, unmoved}
+use Rattle.rules.specs.Promises.{RefusalsMoveNothing}
+use Rattle.keeps.proofs.Refusing.{refused-or}
+
+-- An outcome that leaves f as it was wherever it says no.
+abbrev Still : Flows → Outcome → Type 0
+Still f o = T (is-no (o .answer)) → o .flows ≡ f
+
+abbrev StillLent : Flows → Lent → Type 0
+StillLent f l = Still f (l .outcome)
+
+-- a call whose work says yes
+module _ (f : Flows) where
+  refuses : (causes : List Cause) (work : Outcome) → (T (is-no (work .answer)) → ⊥) → Still f (refusing causes (refused f) work)
+  refuses causes work positive = refused-or (Still f) causes (refused f) work (λ n says. refl) (λ none says. absurd (positive says))
+
+  refuses-lent : (causes : List Cause) (buffer : List ℕ) (work : Lent) → StillLent f work → StillLent f (refusing causes (refused-lent f buffer) work)
+  refuses-lent causes buffer work still = refused-or (StillLent f) causes (refused-lent f buffer) work (λ n says. refl) (λ none. still)
+
+still-cancel : (id : ℕ) (f : Flows) → Still f (Calls.cancel id f)
+unfolding Calls.cancel is-no
+still-cancel id f = go (Records.contains id f)
+  where
+    go : (b : Bool) → Still f (cond b (answering Done (Calls.cancelled id f)) (answering Unknown f))
+    go true says = absurd says
+    go false says = refl
+
+still-advance : (until : Float) (f : Flows) (buffer : List ℕ) → StillLent f (Calls.advance until f buffer)
+unfolding Calls.advance Calls.listing is-no
+still-advance until f buffer = refuses-lent f _ buffer _ (go (Calls.quiet (read-zero until) f) (ensure-rates (drain-to (read-zero until) f)))
+  where
+    go : (b : Bool) (d : Flows) → StillLent f (cond b (lent (answering (Listed 0) (pass-time (read-zero until) f)) buffer) (Calls.listing d (Calls.done-list d) f buffer))
+    go true d = λ says. absurd says
+    go false d = refuses-lent f _ buffer _ (λ says. absurd says)
+
+still-take : (owner : Owner) (f : Flows) (buffer : List ℕ) → StillLent f (Queue.take-completed owner f buffer)
+unfolding Queue.take-completed is-no
+still-take owner f buffer = go (Queue.ids-for owner f)
+  where
+    go : (ids : List ℕ) → StillLent f (Queue.taking ids owner f buffer)
+    go [] = unfold Queue.taking in λ says. refl
+    go (id ∷ ids) = unfold Queue.taking in refuses-lent f _ buffer _ (λ says. absurd says)
+
+still-owners : (f : Flows) (buffer : List ℕ) → Queue.owners-with-completions f buffer .outcome .flows ≡ f
+unfolding Queue.owners-with-completions
+still-owners f buffer = refused-or (λ (l : Lent). l .outcome .flows ≡ f) _ (refused-lent f buffer) _ (λ n. refl) (λ none. refl)
+
+pub refusals-move-nothing : RefusalsMoveNothing
+unfolding call unmoved says-no is-no Calls.add-edge Calls.widen Calls.submit-capped
+refusals-move-nothing (advance size until) f says = still-advance until f (lent-buffer size) says
+refusals-move-nothing (submit id owner path bytes latency cap until) f says = refuses f _ _ (λ s. s) says
+refusals-move-nothing (cancel id) f says = still-cancel id f says
+refusals-move-nothing (add-edge capacity) f says = refuses f _ _ (λ s. s) says
+refusals-move-nothing (widen e amount) f says = refuses f _ _ (λ s. s) says
+refusals-move-nothing (take-completed size owner) f says = still-take owner f (lent-buffer size) says
+refusals-move-nothing (owners-with-completions size) f says = still-owners f (lent-buffer size)
+refusals-move-nothing next-completion-delay f says = absurd says
+refusals-move-nothing (estimate-new path bytes latency cap) f says = refl
+refusals-move-nothing (estimate-remaining id) f says = absurd says
+refusals-move-nothing (mean-in-flight e until) f says = refl
+refusals-move-nothing (rate id) f says = absurd says
+refusals-move-nothing (edge e) f says = refl
+refusals-move-nothing (contains id) f says = refl
+refusals-move-nothing rounds f says = refl

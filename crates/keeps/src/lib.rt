@@ -1,0 +1,1 @@
+// Laws only: what every call keeps. They stand in proofs/.

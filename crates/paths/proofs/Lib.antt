@@ -1,0 +1,3 @@
+pub mod PerEdge
+pub mod Walk
+pub mod Routes

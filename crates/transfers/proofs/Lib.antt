@@ -1,0 +1,11 @@
+pub mod Conds
+pub mod Places
+pub mod Routes
+pub mod PutBack
+pub mod Loads
+pub mod Monotone
+pub mod Stalls
+pub mod DrainKeeps
+pub mod SlotsKeep
+pub mod EdgesKeep
+pub mod Waits
