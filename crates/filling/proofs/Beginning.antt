@@ -1,12 +1,11 @@
 -- A filling begins ready: seats keep the paths and caps of their slots, so what is asked of the slots holds of the seats. Assumes nothing.
 use mathlib.Core.Path.{_≡_, refl, sym, ap, subst, _∙_}
 use mathlib.Core.Bool.{Bool, true, false, cond}
-use mathlib.Core.List.{List, [], _∷_, map}
-use Prim.Native.Nat.{ℕ, _≤_, _<_}
+use mathlib.Core.List.{List, [], _∷_}
+use Prim.Native.Nat.{ℕ}
 use native.Mathlib.Omega.{arith}
 use lib.Ieee.{Float}
 use lib.ListN.{length, getD}
-use Rattle.rules.specs.declared.Cap.{Cap}
 use Rattle.rules.specs.declared.Edge.{Edge}
 use Rattle.rules.specs.declared.Route.{Route}
 use Rattle.rules.specs.declared.Transfer.{Transfer}
@@ -14,7 +13,7 @@ use Rattle.rules.specs.declared.Seat.{Seat}
 use Rattle.rules.specs.Records.{free, own-path, takes-part}
 use Rattle.rules.specs.Filling.{with-rate, lone-rate, entered, seat, start}
 use Rattle.rules.specs.Invariant.{SoundRoute, SoundCap}
-use Rattle.fairness.specs.Ready.{no-seat, seat-at, Ready}
+use Rattle.fairness.specs.Ready.{seat-at, Ready}
 use Rattle.fairness.proofs.Start.{start-seat, start-ready, own-path-known}
 use Rattle.filling.specs.Filled.{Fillable}
 

@@ -1,14 +1,12 @@
 -- The shares read from the load table are the definition's, since the table is right for every edge. Assumes nothing.
-use mathlib.Core.Path.{_≡_, refl, sym, ap, _∙_}
+use mathlib.Core.Path.{_≡_, refl, ap}
 use mathlib.Core.Bool.{Bool, true, false}
 use mathlib.Core.List.{List, [], _∷_}
-use Prim.Native.Nat.{ℕ, zero, suc, _+_, _≤_, _<_}
+use Prim.Native.Nat.{ℕ, suc, _+_, _≤_, _<_}
 use native.Mathlib.Omega.{arith}
 use borrow.Author.Tests.{ltb-true, ltb-false}
 use lib.Dec.{ltb}
-use lib.Ieee.{Float, nan}
 use lib.ListN.{length, getD}
-use Rattle.rules.specs.declared.Best.{Best}
 use Rattle.rules.specs.Lists.{map-from}
 use Rattle.rules.specs.Records.{own-path}
 use Rattle.rules.specs.Filling.{load, share, tightest, winning-edge}

@@ -1,29 +1,34 @@
 -- A verdict carried out seat by seat: what the seats left will still spend of an edge, and what they will still leave waiting on it, makes the definition's whole.
 -- Assumes nothing.
 use mathlib.Core.Path.{_≡_, refl, sym, ap, _∙_}
-use mathlib.Core.Bool.{Bool, true, false, _&&_, cond, true≢false}
+use mathlib.Core.Bool.{Bool, true, false, _&&_, cond}
 use mathlib.Core.List.{List, [], _∷_}
 use Prim.Native.Nat.{ℕ, zero, suc, _+_, _-_, _≤_, _<_}
 use native.Mathlib.Omega.{arith}
-use lib.Dec.{eqb, ltb}
+use lib.Dec.{ltb}
 use lib.Ieee.{Float, nan}
 use lib.ListN.{length, getD, take, drop, set, length-set, drop-of-length-le}
 use lib.Seq.{take-all, drop-nil, ext-getD}
-use borrow.Author.Tests.{ltb-true, ltb-false, eqb-true}
+use borrow.Author.Tests.{ltb-true, ltb-false}
 use Rattle.rules.specs.declared.Seat.{Seat}
 use Rattle.rules.specs.declared.Verdict.{Verdict}
 use Rattle.rules.specs.Lists.{count, sum, map-from, crossings, at-each-crossing, times}
 use Rattle.rules.specs.Records.{own-path}
-use Rattle.rules.specs.Filling.{with-rate, load, rate-by, names, freezes, freeze, crossings-frozen, spend}
-use Rattle.rules.specs.Invariant.{SoundRoute}
+use Rattle.rules.specs.Filling.{Filling, with-rate, load, rate-by, names, freezes, freeze, crossings-frozen, spend}
 use Rattle.rules.proofs.Steps.{count-one, map-from-one, length-map-from, getD-map-from, map-from-take}
 use Rattle.fairness.specs.Ready.{no-seat}
 use Rattle.fairness.proofs.Counting.{crosses-some}
-use Rattle.paths.specs.Known.{Known, Counted}
+use Rattle.paths.specs.Known.{Known}
 use Rattle.paths.proofs.PerEdge.{times-add, length-crossing, crossing-at}
 use Rattle.paths.proofs.Routes.{known-route}
 use Rattle.filling.specs.Filled.{Loads, Freezable}
-use Rattle.filling.proofs.Loading.{waiting, load-one, load-by, load-nil, lowered, Routed, route-at}
+use Rattle.filling.proofs.Loading.{waiting, load-one, load-nil, lowered, Routed, route-at}
+
+-- ---- fillings
+
+-- two fillings are one by their parts
+pub filling-same : {seats seats′ : List Seat} {residual residual′ : List Float} {rounds rounds′ : ℕ} → seats ≡ seats′ → residual ≡ residual′ → rounds ≡ rounds′ → _≡_ {A = Filling} (record { seats = seats; residual = residual; rounds = rounds }) (record { seats = seats′; residual = residual′; rounds = rounds′ })
+filling-same p q r = rw (p, q, r) refl
 
 -- ---- one seat
 

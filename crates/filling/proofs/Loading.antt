@@ -1,5 +1,5 @@
 -- An edge's load, seat by seat: one more seat adds its crossings if it is unfrozen, and eight are the most that one can add. Assumes nothing.
-use mathlib.Core.Path.{_≡_, refl, sym, ap, subst, _∙_}
+use mathlib.Core.Path.{_≡_, refl, ap, subst, _∙_}
 use mathlib.Core.Bool.{Bool, true, false, cond}
 use mathlib.Core.List.{List, [], _∷_, map}
 use Prim.Native.Nat.{ℕ, zero, suc, _+_, _*_, _-_, _^_, _≤_, _<_}
@@ -9,7 +9,7 @@ use lib.Dec.{eqb, ltb}
 use borrow.Author.Tests.{ltb-true, ltb-false}
 use lib.ListN.{length, getD, drop, replicate, getD-replicate, drop-of-length-le}
 use Rattle.rules.specs.declared.Seat.{Seat}
-use Rattle.rules.specs.Lists.{count, sum, crossings, at-each-crossing, times}
+use Rattle.rules.specs.Lists.{count, sum, crossings, at-each-crossing}
 use Rattle.rules.specs.Records.{own-path}
 use Rattle.rules.specs.Filling.{load}
 use Rattle.rules.specs.Invariant.{SoundRoute}

@@ -1,27 +1,25 @@
 -- A filling under way, round by round: each round is the definition's, freezes somebody, and leaves as much to do as the definition has left. Assumes nothing.
 use mathlib.Core.Path.{_≡_, refl, sym, ap, subst, _∙_}
-use mathlib.Core.Bool.{Bool, true, false}
-use mathlib.Core.List.{List}
+use mathlib.Core.Bool.{true, false}
 use Prim.Native.Nat.{ℕ, suc, _+_, _≤_, _<_}
 use native.Mathlib.Omega.{arith}
 use lib.Ieee.{Float}
 use lib.ListN.{length, getD}
-use Rattle.rules.specs.declared.Cap.{Cap}
 use Rattle.rules.specs.declared.Route.{Route}
 use Rattle.rules.specs.declared.Transfer.{Transfer}
 use Rattle.rules.specs.declared.Seat.{Seat}
 use Rattle.rules.specs.declared.Verdict.{Verdict}
 use Rattle.rules.specs.Records.{own-path}
 use Rattle.rules.specs.Filling.{Filling, with-rate, smallest-cap, num-unfrozen, round, rounds-until}
-use Rattle.rules.specs.Invariant.{SoundRoute, SoundCap}
+use Rattle.rules.specs.Invariant.{SoundRoute}
 use Rattle.fairness.specs.Ready.{no-seat, seat-at, Ready}
 use Rattle.fairness.proofs.Start.{own-path-kept}
 use Rattle.fairness.proofs.Rounds.{verdict-of, never-unfreezes, frozen-stays, round-seats, round-edges, round-seat, round-keeps, round-freezes, round-ready, one-round-on}
 use Rattle.filling.specs.declared.CapOrder.{CapOrder}
 use Rattle.filling.specs.declared.Scratch.{Scratch}
-use Rattle.filling.specs.Order.{capped, first-cap, cap-order}
-use Rattle.filling.specs.Filled.{filling, frozen-by, listed, Sized, Ordered, Passed, Standing, Frozen, Since, Coming, Begun}
-use Rattle.filling.proofs.Ranked.{next-is-smallest}
+use Rattle.filling.specs.Order.{capped, first-cap}
+use Rattle.filling.specs.Filled.{filling, frozen-by, listed, Ordered, Passed, Standing, Frozen, Coming, Begun}
+use Rattle.filling.proofs.Ranked.{Since, next-is-smallest}
 
 -- Where a filling stands that began with a scratch.
 pub record Running (start : Scratch) (o : CapOrder) (f : Scratch) : Type 0 where

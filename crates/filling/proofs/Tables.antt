@@ -1,7 +1,7 @@
 -- A table filled from another, place by place: what is filled is the front of the other put through f. Assumes nothing.
 use mathlib.Core.Path.{_≡_, refl, sym, _∙_}
-use mathlib.Core.List.{List, _∷_, _++_, [], map}
-use Prim.Native.Nat.{ℕ, suc, _+_, _≤_, _<_}
+use mathlib.Core.List.{List, map}
+use Prim.Native.Nat.{ℕ, _+_, _≤_, _<_}
 use native.Mathlib.Numerals.{add-one}
 use lib.ListN.{length, take, set, getD, length-map, List·getD-map}
 use lib.Seq.{take-suc, take-suc-set, take-all}

@@ -83,12 +83,6 @@ pub record Frozen (f : Scratch) (v : Verdict) (cursor : ℕ) (r : Scratch) : Typ
   pub counted : r .unfrozen ≡ num-unfrozen (filling r)
   pub passed : r .«cap_cursor» ≡ cursor
 
--- Seats since the start: none has another cap, and none that was frozen is unfrozen.
-pub record Since (start seats : List Seat) : Type 0 where
-  pub long : length seats ≡ length start
-  pub caps : (i : ℕ) → getD seats i no-seat .transfer .«rate_cap» ≡ getD start i no-seat .transfer .«rate_cap»
-  pub only : (i : ℕ) → getD seats i no-seat .unfrozen ≡ true → getD start i no-seat .unfrozen ≡ true
-
 -- A scratch and the order of caps that it goes through: the first that is left there is the smallest cap of all.
 pub record Coming (o : CapOrder) (f : Scratch) : Type 0 where
   pub table : Sized o

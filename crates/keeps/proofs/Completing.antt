@@ -78,7 +78,7 @@ all-leave d = rw (plainly (map (cleared (done-now d)) (d .«in_flight»)), plain
         go true = refl
         go false = refl
 
-emptied-drained : (d : Flows) → Drained [] d → Drained (done-list d) (with-in-flight (map (cleared (done-now d)) (d .«in_flight»)) d)
+pub emptied-drained : (d : Flows) → Drained [] d → Drained (done-list d) (with-in-flight (map (cleared (done-now d)) (d .«in_flight»)) d)
 unfolding with-in-flight with-totals count of-kind
 emptied-drained d was =
     let slots = d .«in_flight» in
@@ -100,7 +100,7 @@ emptied-drained d was =
 
 -- ---- being queued
 
-one-queued : (owed : List Completion) (c : Completion) (f : Flows) → Drained (c ∷ owed) f → Drained owed (completed-one f c)
+pub one-queued : (owed : List Completion) (c : Completion) (f : Flows) → Drained (c ∷ owed) f → Drained owed (completed-one f c)
 unfolding completed-one queued with-waiting with-totals waiting count count-completed
 one-queued owed c f was =
     let few : f .«num_completed» ≤ max-slots = omega (arith, was .totals .room) in

@@ -3,10 +3,9 @@ use mathlib.Core.Path.{_≡_}
 use Prim.Native.Nat.{ℕ, _≤_, _<_}
 use mathlib.Core.List.{List}
 use native.Mathlib.Omega.{arith}
-use lib.ListN.{length, take, getD, length-take}
+use lib.ListN.{length, take, length-take}
 use lib.Seq.{getD-take}
 use Rattle.rules.specs.declared.Route.{Route}
-use Rattle.rules.specs.Records.{max-path}
 use Rattle.rules.specs.Invariant.{SoundRoute}
 use Rattle.paths.specs.Known.{Known}
 

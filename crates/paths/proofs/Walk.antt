@@ -1,16 +1,16 @@
 -- A walk along a path, one store for each crossing: what is left of the path does to the table as it is what the whole path does to the table as it was.
 -- Assumes nothing.
 use mathlib.Core.Path.{_≡_, refl, sym, ap, _∙_}
-use mathlib.Core.Bool.{Bool, true, false, cond}
+use mathlib.Core.Bool.{Bool, true, false}
 use mathlib.Core.List.{List}
-use Prim.Native.Nat.{ℕ, suc, _+_, _-_, _≤_, _<_}
+use Prim.Native.Nat.{ℕ, _+_, _-_, _≤_, _<_}
 use native.Mathlib.Omega.{arith}
 use lib.Dec.{eqb}
 use lib.ListN.{length, getD, set, drop, length-set, drop-of-length-le}
 use lib.Seq.{getD-set-same, getD-set-other}
 use borrow.Author.Tests.{eq-eqb, eqb-true, eqb-false}
 use Rattle.rules.specs.Lists.{count, crossings, at-each-crossing}
-use Rattle.rules.proofs.Steps.{count-one, count-by, crossing-one}
+use Rattle.rules.proofs.Steps.{count-by, crossing-one}
 use Rattle.paths.specs.Known.{Known}
 use Rattle.paths.proofs.PerEdge.{crossing-at, times-more}
 

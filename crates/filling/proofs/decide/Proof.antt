@@ -1,17 +1,11 @@
 -- `decide` asks for the next cap and the tightest edge: the order's first is the smallest cap, and the load table is right. Assumes nothing.
-use mathlib.Core.Path.{_≡_, refl, sym, ap, _∙_}
-use Rattle.rules.specs.Records.{own-path}
+use mathlib.Core.Path.{refl, sym}
 use Rattle.rules.specs.Filling.{verdict}
 use Rattle.filling.proofs.Deciding.{loads-few, shares-right}
 use native.Mathlib.Omega.{arith}
 use borrow.Author.Needs.{needs}
 use Rattle.filling.proofs.decide.Statement.{statement}
 use Rattle.filling.proofs.decide.Tie as tie
-use Rattle.filling.proofs.decide.Reads as reads
-use Rattle.filling.proofs.decide.Lts as lts
-use Rattle.filling.proofs.next_cap.Reads as next-cap-reads
-use Rattle.filling.proofs.verdict.Reads as verdict-reads
-use Rattle.filling.proofs.winning_edge.Reads as winning-edge-reads
 
 next-cap-requires : tie.Need-next-cap-requires
 next-cap-requires c κs = (c .before .before .before .pre .1 .table, c .before .before .before .pre .1 .passed)

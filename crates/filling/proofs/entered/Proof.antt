@@ -1,21 +1,16 @@
 -- `entered` asks whether the path is empty: its length says so, since the route is sound. Assumes nothing.
-use mathlib.Core.Path.{_≡_, refl, sym, ap, _∙_}
+use mathlib.Core.Path.{_≡_, refl}
 use mathlib.Core.Bool.{true}
 use mathlib.Core.List.{List, [], _∷_}
 use Prim.Native.Nat.{ℕ, zero, suc, _≤_}
 use lib.ListN.{length, take}
 use Rattle.rules.specs.declared.Transfer.{Transfer}
-use Rattle.rules.specs.declared.Seat.{Seat}
 use Rattle.rules.specs.Records.{own-path}
 use Rattle.rules.specs.Filling.{entered, with-rate}
-use Rattle.rules.specs.Invariant.{SoundRoute}
 use native.Mathlib.Omega.{arith}
 use borrow.Author.Needs.{needs}
 use Rattle.filling.proofs.entered.Statement.{statement}
 use Rattle.filling.proofs.entered.Tie as tie
-use Rattle.filling.proofs.entered.Reads as reads
-use Rattle.filling.proofs.entered.Lts as lts
-use Rattle.filling.proofs.lone_rate.Reads as lone-rate-reads
 
 shares : (t : Transfer) (n : ℕ) (hops : List ℕ) → (n ≡ 0 → ⊥) → 1 ≤ length hops → record { transfer = t; unfrozen = true } ≡ entered (take n hops) t
 unfolding entered

@@ -1,8 +1,6 @@
 -- `fill` goes round by round: each freezes somebody and leaves what the definition has left to do, so the early stop is never reached. Assumes nothing.
-use mathlib.Core.Path.{_≡_, refl, sym, ap, _∙_}
-use Prim.Native.Nat.{_≤_}
+use mathlib.Core.Path.{sym, _∙_}
 use Rattle.rules.specs.Records.{own-path}
-use Rattle.rules.specs.Filling.{num-unfrozen}
 use Rattle.fairness.proofs.Start.{own-path-kept}
 use Rattle.fairness.proofs.Loads.{never-by-nobody}
 use Rattle.fairness.proofs.Rounds.{no-more-rounds}
@@ -12,10 +10,6 @@ use borrow.Author.Needs.{needs}
 use native.Mathlib.Omega.{arith}
 use Rattle.filling.proofs.fill.Statement.{statement}
 use Rattle.filling.proofs.fill.Tie as tie
-use Rattle.filling.proofs.fill.Reads as reads
-use Rattle.filling.proofs.fill.Lts as lts
-use Rattle.filling.proofs.decide.Reads as decide-reads
-use Rattle.filling.proofs.round.Reads as round-reads
 
 abbrev Inv-loop : tie.InvT-loop
 Inv-loop order f₀ f = Running f₀ order f

@@ -1,20 +1,14 @@
 -- `freeze` spends and lowers along the path exactly where the definition freezes. Assumes nothing.
-use mathlib.Core.Path.{_≡_, refl, sym, ap, _∙_}
+use mathlib.Core.Path.{refl, sym, _∙_}
 use mathlib.Core.Bool.{true, false}
 use Rattle.rules.specs.Records.{own-path}
-use Rattle.rules.specs.Filling.{names, with-rate, freezes}
+use Rattle.rules.specs.Filling.{names, with-rate}
 use Rattle.paths.proofs.Routes.{known-route, route-length}
 use Rattle.filling.proofs.Freezing.{freezes-when, freezes-not, freeze-when}
 use native.Mathlib.Omega.{arith}
 use borrow.Author.Needs.{needs}
 use Rattle.filling.proofs.freeze.Statement.{statement}
 use Rattle.filling.proofs.freeze.Tie as tie
-use Rattle.filling.proofs.freeze.Reads as reads
-use Rattle.filling.proofs.freeze.Lts as lts
-use Rattle.filling.proofs.names.Reads as names-reads
-use Rattle.filling.proofs.rate_by.Reads as rate-by-reads
-use Rattle.paths.proofs.lower.Reads as lower-reads
-use Rattle.paths.proofs.spend.Reads as spend-reads
 
 array-share-prefix-hops : tie.Need-array-share-prefix-hops
 array-share-prefix-hops c = omega (arith, c .before .before .before .before .before .before .pre .path .places, c .before .before .before .before .before .before .pre .path .short)
@@ -57,10 +51,10 @@ returns : tie.Need-returns
 unfolding own-path with-rate
 returns c =
     let f = freezes-when (c .before .before .before .before .before .before .before .before .before .before .before .before .before .before .before .before .before .before .before .before .args .v) (c .before .before .before .before .before .before .before .before .before .before .before .before .before .before .before .before .before .before .before .before .args .i) (c .before .before .before .before .before .before .before .before .before .before .before .before .before .before .before .before .before .before .before .before .args .s) true (c .before .before .before .before .before .before .before .before .before .before .before .before .before .before .before .before .before .if1 .taken) (sym (c .before .before .before .before .before .before .before .before .before .before .before .before .names .ensures) ∙ c .before .before .before .before .before .before .before .before .before .before .before .if2 .taken) in (
-      rw (c .before .before .before .before .before .before .before .before .before .before .rate-by .ensures) (sym (freeze-when (c .before .before .before .before .before .before .before .before .before .before .before .before .before .before .before .before .before .before .before .before .args .v) (c .before .before .before .before .before .before .before .before .before .before .before .before .before .before .before .before .before .before .before .before .args .i) (c .before .before .before .before .before .before .before .before .before .before .before .before .before .before .before .before .before .before .before .before .args .s) true f)),
+      rw (freeze-when (c .before .before .before .before .before .before .before .before .before .before .before .before .before .before .before .before .before .before .before .before .args .v) (c .before .before .before .before .before .before .before .before .before .before .before .before .before .before .before .before .before .before .before .before .args .i) (c .before .before .before .before .before .before .before .before .before .before .before .before .before .before .before .before .before .before .before .before .args .s) true f, ← c .before .before .before .before .before .before .before .before .before .before .rate-by .ensures),
       (
-        rw (f, ← c .before .before .before .before .before .before .before .before .before .before .rate-by .ensures) (c .before .before .before .before .before .before .before .spend .ensures),
-        rw f (c .before .before .lower .ensures),
+        rw (f, c .before .before .before .before .before .before .before .spend .ensures, ← c .before .before .before .before .before .before .before .before .before .before .rate-by .ensures),
+        rw (f, c .before .before .lower .ensures),
       ),
     )
 

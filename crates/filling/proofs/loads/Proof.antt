@@ -9,9 +9,6 @@ use borrow.Author.Needs.{needs}
 use native.Mathlib.Omega.{arith}
 use Rattle.filling.proofs.loads.Statement.{statement}
 use Rattle.filling.proofs.loads.Tie as tie
-use Rattle.filling.proofs.loads.Reads as reads
-use Rattle.filling.proofs.loads.Lts as lts
-use Rattle.paths.proofs.raise.Reads as raise-reads
 
 abbrev Inv-loop : tie.InvT-loop
 Inv-loop seats load₀ i₀ load i = Counting seats load i

@@ -1,12 +1,8 @@
 -- `names` takes the definition's cases one by one: a number is equal, or the path crosses the edge. Assumes nothing.
-use lib.Dec.{eqb}
 use Rattle.rules.specs.Filling.{names}
 use borrow.Author.Needs.{needs}
 use Rattle.filling.proofs.names.Statement.{statement}
 use Rattle.filling.proofs.names.Tie as tie
-use Rattle.filling.proofs.names.Reads as reads
-use Rattle.filling.proofs.names.Lts as lts
-use Rattle.paths.proofs.crosses.Reads as crosses-reads
 
 enum-known-v : tie.Need-enum-known-v
 enum-known-v c = search needs

@@ -11,8 +11,6 @@ use borrow.Author.Needs.{needs}
 use native.Mathlib.Omega.{arith}
 use Rattle.filling.proofs.num_unfrozen.Statement.{statement}
 use Rattle.filling.proofs.num_unfrozen.Tie as tie
-use Rattle.filling.proofs.num_unfrozen.Reads as reads
-use Rattle.filling.proofs.num_unfrozen.Lts as lts
 
 abbrev Inv-loop : tie.InvT-loop
 Inv-loop seats n₀ i₀ n i = (i ≤ 256) × (n ≤ i) × (n + count (λ (s : Seat). s .unfrozen) (drop i seats) ≡ count (λ (s : Seat). s .unfrozen) seats)

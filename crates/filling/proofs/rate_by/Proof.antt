@@ -4,8 +4,6 @@ use Rattle.rules.specs.Filling.{rate-by}
 use borrow.Author.Needs.{needs}
 use Rattle.filling.proofs.rate_by.Statement.{statement}
 use Rattle.filling.proofs.rate_by.Tie as tie
-use Rattle.filling.proofs.rate_by.Reads as reads
-use Rattle.filling.proofs.rate_by.Lts as lts
 
 enum-known-v : tie.Need-enum-known-v
 enum-known-v c = search needs

@@ -8,12 +8,6 @@ use Rattle.filling.specs.Filled.{filling}
 use borrow.Author.Needs.{needs}
 use Rattle.filling.proofs.recompute_rates.Statement.{statement}
 use Rattle.filling.proofs.recompute_rates.Tie as tie
-use Rattle.filling.proofs.recompute_rates.Reads as reads
-use Rattle.filling.proofs.recompute_rates.Lts as lts
-use Rattle.filling.proofs.cap_order.Reads as cap-order-reads
-use Rattle.filling.proofs.fill.Reads as fill-reads
-use Rattle.filling.proofs.start.Reads as start-reads
-use Rattle.filling.proofs.transfers.Reads as transfers-reads
 
 start-requires : tie.Need-start-requires
 start-requires c κs = search needs

@@ -1,16 +1,14 @@
 -- `residual` fills its table edge by edge: what is filled is the front of the capacities. Assumes nothing.
-use mathlib.Core.Path.{_≡_, refl, ap, _∙_}
+use mathlib.Core.Path.{_≡_, refl, _∙_}
 use mathlib.Core.List.{map}
 use Prim.Native.Nat.{_-_, _≤_}
-use lib.ListN.{length, take, length-set, length-replicate}
+use lib.ListN.{length, take, length-set}
 use Rattle.filling.proofs.Tables.{map-take, map-filled}
 use Rattle.rules.specs.declared.Edge.{Edge}
 use borrow.Author.Needs.{needs}
 use native.Mathlib.Omega.{arith}
 use Rattle.filling.proofs.residual.Statement.{statement}
 use Rattle.filling.proofs.residual.Tie as tie
-use Rattle.filling.proofs.residual.Reads as reads
-use Rattle.filling.proofs.residual.Lts as lts
 
 abbrev Inv-loop : tie.InvT-loop
 Inv-loop edges residual₀ e₀ residual e = (e ≤ 64) × (length residual ≡ 64) × (take e residual ≡ take e (map (λ (e : Edge). e .capacity) edges))

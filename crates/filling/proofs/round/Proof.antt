@@ -2,18 +2,14 @@
 use mathlib.Core.Path.{_≡_, refl, sym, ap, _∙_}
 use mathlib.Core.Bool.{Bool, true, false, cond}
 use mathlib.Core.Logic.{⊎-elim}
-use Prim.Native.Nat.{ℕ, _+_, _-_, _≤_}
-use native.Mathlib.Numerals.{add-one}
+use Prim.Native.Nat.{_+_, _-_}
 use Rattle.rules.specs.Filling.{num-unfrozen}
 use Rattle.filling.specs.Filled.{frozen-by}
-use Rattle.filling.proofs.Freezing.{Freezing, freezing-starts, freezing-asks, freezing-one, seats-done, edges-done, loads-done, count-done}
+use Rattle.filling.proofs.Freezing.{filling-same, Freezing, freezing-starts, freezing-asks, freezing-one, seats-done, edges-done, loads-done, count-done}
 use borrow.Author.Needs.{needs}
 use native.Mathlib.Omega.{arith}
 use Rattle.filling.proofs.round.Statement.{statement}
 use Rattle.filling.proofs.round.Tie as tie
-use Rattle.filling.proofs.round.Reads as reads
-use Rattle.filling.proofs.round.Lts as lts
-use Rattle.filling.proofs.freeze.Reads as freeze-reads
 
 abbrev Inv-loop : tie.InvT-loop
 Inv-loop f v cursor old seats₀ residual₀ load₀ unfrozen₀ i₀ seats residual load unfrozen i = Freezing v old residual₀ seats residual load unfrozen i
@@ -70,7 +66,7 @@ returns c =
     let seats-are = seats-done (c .before .before .before .before .before .before .before .args .v) (c .before .before .before .before .before .before .before .args .f .seats) (c .before .before .before .before .before .before .before .pre .0 .places) (c .before .before .before .before .before .before .before .args .f .residual) (c .before .before .loop .seats) (c .before .before .loop .residual) (c .before .before .loop .load) (c .before .before .loop .unfrozen) (c .before .before .loop .i) (c .before .before .loop .inv) (omega arith) in
     let edges-are = edges-done (c .before .before .before .before .before .before .before .args .v) (c .before .before .before .before .before .before .before .args .f .seats) (c .before .before .before .before .before .before .before .pre .0 .places) (c .before .before .before .before .before .before .before .args .f .residual) (c .before .before .loop .seats) (c .before .before .loop .residual) (c .before .before .loop .load) (c .before .before .loop .unfrozen) (c .before .before .loop .i) (c .before .before .loop .inv) (omega arith) (c .before .before .before .before .before .before .before .pre .0 .edges) in
     record {
-      same = rw (seats-are, edges-are, add-one) refl;
+      same = filling-same seats-are edges-are (omega arith);
       loads = rw seats-are (loads-done (c .before .before .before .before .before .before .before .args .v) (c .before .before .before .before .before .before .before .args .f .seats) (c .before .before .before .before .before .before .before .pre .0 .places) (c .before .before .before .before .before .before .before .args .f .residual) (c .before .before .loop .seats) (c .before .before .loop .residual) (c .before .before .loop .load) (c .before .before .loop .unfrozen) (c .before .before .loop .i) (c .before .before .loop .inv) (omega arith));
       counted = rw seats-are (count-done (c .before .before .before .before .before .before .before .args .v) (c .before .before .before .before .before .before .before .args .f .seats) (c .before .before .before .before .before .before .before .pre .0 .places) (c .before .before .before .before .before .before .before .args .f .residual) (c .before .before .loop .seats) (c .before .before .loop .residual) (c .before .before .loop .load) (c .before .before .loop .unfrozen) (c .before .before .loop .i) (c .before .before .loop .inv) (omega arith));
       passed = refl;

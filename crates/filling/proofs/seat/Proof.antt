@@ -3,10 +3,6 @@ use Rattle.rules.specs.Filling.{seat}
 use borrow.Author.Needs.{needs}
 use Rattle.filling.proofs.seat.Statement.{statement}
 use Rattle.filling.proofs.seat.Tie as tie
-use Rattle.filling.proofs.seat.Reads as reads
-use Rattle.filling.proofs.seat.Lts as lts
-use Rattle.filling.proofs.entered.Reads as entered-reads
-use Rattle.filling.proofs.takes_part.Reads as takes-part-reads
 
 takes-part-requires : tie.Need-takes-part-requires
 takes-part-requires c κs = search needs

@@ -1,8 +1,8 @@
 -- `seats` fills its table slot by slot: what is filled is the front of the slots, each seated. Assumes nothing.
-use mathlib.Core.Path.{_≡_, refl, ap, _∙_}
+use mathlib.Core.Path.{_≡_, refl, _∙_}
 use mathlib.Core.List.{map}
 use Prim.Native.Nat.{_-_, _≤_}
-use lib.ListN.{length, take, length-set, length-replicate}
+use lib.ListN.{length, take, length-set}
 use Rattle.filling.proofs.Tables.{map-take, map-filled}
 use Rattle.rules.specs.Records.{free, own-path}
 use Rattle.rules.specs.Filling.{seat}
@@ -14,9 +14,6 @@ use borrow.Author.Needs.{needs}
 use native.Mathlib.Omega.{arith}
 use Rattle.filling.proofs.seats.Statement.{statement}
 use Rattle.filling.proofs.seats.Tie as tie
-use Rattle.filling.proofs.seats.Reads as reads
-use Rattle.filling.proofs.seats.Lts as lts
-use Rattle.filling.proofs.seat.Reads as seat-reads
 
 abbrev Inv-loop : tie.InvT-loop
 Inv-loop in-flight seats₀ i₀ seats i = (i ≤ 256) × (length seats ≡ 256) × (take i seats ≡ take i (map (seat own-path) in-flight))

@@ -1,6 +1,6 @@
 -- `share` divides where there is a load; a load of at most 2,048 is exact as a double. Assumes nothing.
 use mathlib.Core.Path.{_≡_, refl}
-use Prim.Native.Nat.{ℕ, zero, suc, _≤_, _^_}
+use Prim.Native.Nat.{ℕ, zero, suc, _^_}
 use lib.Dec.{le→leb}
 use lib.Ieee.{Float, inFloat}
 use Rattle.doubles.specs.Doubles.{_⊘_, whole}
@@ -10,8 +10,6 @@ use Rattle.rules.specs.Filling.{share}
 use native.Mathlib.Omega.{arith}
 use Rattle.filling.proofs.share.Statement.{statement}
 use Rattle.filling.proofs.share.Tie as tie
-use Rattle.filling.proofs.share.Reads as reads
-use Rattle.filling.proofs.share.Lts as lts
 
 loaded : (e : ℕ) (r : Float) (l : ℕ) → (l ≡ 0 → ⊥) → At e (r ⊘ whole l) ≡ share e r l
 unfolding share

@@ -1,25 +1,11 @@
 -- `start` fills the tables of the definition's start, and they are ready since the slots are. Assumes nothing.
-use mathlib.Core.Path.{_≡_, refl, sym, ap, subst, _∙_}
-use mathlib.Core.List.{List}
-use Prim.Native.Nat.{ℕ}
-use lib.ListN.{length, getD, length-map}
-use Rattle.rules.specs.declared.Edge.{Edge}
-use Rattle.rules.specs.declared.Seat.{Seat}
-use Rattle.rules.specs.Records.{own-path}
-use Rattle.rules.specs.Filling.{start, seat, num-unfrozen}
-use Rattle.rules.specs.Invariant.{SoundRoute}
-use Rattle.fairness.specs.Ready.{no-seat}
+use mathlib.Core.Path.{refl}
+use Rattle.rules.specs.Filling.{start, num-unfrozen}
 use Rattle.filling.proofs.Beginning.{paths-begin, caps-begin, ready-begin}
 use native.Mathlib.Omega.{arith}
 use borrow.Author.Needs.{needs}
 use Rattle.filling.proofs.start.Statement.{statement}
 use Rattle.filling.proofs.start.Tie as tie
-use Rattle.filling.proofs.start.Reads as reads
-use Rattle.filling.proofs.start.Lts as lts
-use Rattle.filling.proofs.loads.Reads as loads-reads
-use Rattle.filling.proofs.num_unfrozen.Reads as num-unfrozen-reads
-use Rattle.filling.proofs.residual.Reads as residual-reads
-use Rattle.filling.proofs.seats.Reads as seats-reads
 
 seats-requires : tie.Need-seats-requires
 seats-requires c κs = search needs

@@ -3,8 +3,6 @@ use lib.Ieee.{ofBits, round}
 use Rattle.rules.specs.Records.{takes-part}
 use Rattle.filling.proofs.takes_part.Statement.{statement}
 use Rattle.filling.proofs.takes_part.Tie as tie
-use Rattle.filling.proofs.takes_part.Reads as reads
-use Rattle.filling.proofs.takes_part.Lts as lts
 
 returns : tie.Need-returns
 unfolding takes-part ofBits round

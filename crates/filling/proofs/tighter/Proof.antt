@@ -3,8 +3,6 @@ use Rattle.rules.specs.Filling.{tighter}
 use borrow.Author.Needs.{needs}
 use Rattle.filling.proofs.tighter.Statement.{statement}
 use Rattle.filling.proofs.tighter.Tie as tie
-use Rattle.filling.proofs.tighter.Reads as reads
-use Rattle.filling.proofs.tighter.Lts as lts
 
 enum-known-x : tie.Need-enum-known-x
 enum-known-x c = search needs
@@ -28,11 +26,11 @@ returns-2 c = rw (c .before .before .before .x .given .1, c .enum-told2 .given .
 
 returns-3 : tie.Need-returns-3
 unfolding tighter
-returns-3 c = rw (c .before .before .before .before .before .x .given .1, c .before .before .y .given .1, c .if1 .taken)
+returns-3 c = simp (c .before .before .before .before .before .x .given .1, c .before .before .y .given .1, c .if1 .taken)
 
 returns-4 : tie.Need-returns-4
 unfolding tighter
-returns-4 c = rw (c .before .before .before .before .before .x .given .1, c .before .before .y .given .1, c .if1 .left)
+returns-4 c = simp (c .before .before .before .before .before .x .given .1, c .before .before .y .given .1, c .if1 .left)
 
 pub tighter-spec : {M : Type 1} → statement M
 tighter-spec =

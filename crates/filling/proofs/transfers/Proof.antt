@@ -10,8 +10,6 @@ use borrow.Author.Needs.{needs}
 use native.Mathlib.Omega.{arith}
 use Rattle.filling.proofs.transfers.Statement.{statement}
 use Rattle.filling.proofs.transfers.Tie as tie
-use Rattle.filling.proofs.transfers.Reads as reads
-use Rattle.filling.proofs.transfers.Lts as lts
 
 abbrev own-transfer : Seat → Transfer
 own-transfer s = s .transfer

@@ -3,8 +3,6 @@ use Rattle.rules.specs.Filling.{verdict}
 use borrow.Author.Needs.{needs}
 use Rattle.filling.proofs.verdict.Statement.{statement}
 use Rattle.filling.proofs.verdict.Tie as tie
-use Rattle.filling.proofs.verdict.Reads as reads
-use Rattle.filling.proofs.verdict.Lts as lts
 
 enum-known-capped : tie.Need-enum-known-capped
 enum-known-capped c = search needs
@@ -38,11 +36,11 @@ returns-3 c = rw (c .before .before .before .capped .given .1, c .enum-told3 .gi
 
 returns-4 : tie.Need-returns-4
 unfolding verdict
-returns-4 c = rw (c .before .before .before .before .before .capped .given .1, c .before .before .best2 .given .1, c .if1 .taken)
+returns-4 c = simp (c .before .before .before .before .before .capped .given .1, c .before .before .best2 .given .1, c .if1 .taken)
 
 returns-5 : tie.Need-returns-5
 unfolding verdict
-returns-5 c = rw (c .before .before .before .before .before .capped .given .1, c .before .before .best2 .given .1, c .if1 .left)
+returns-5 c = simp (c .before .before .before .before .before .capped .given .1, c .before .before .best2 .given .1, c .if1 .left)
 
 pub verdict-spec : {M : Type 1} → statement M
 verdict-spec =

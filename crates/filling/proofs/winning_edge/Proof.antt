@@ -1,7 +1,7 @@
 -- `winning_edge` folds: the best so far against the shares of the edges left gives the tightest of all. Assumes nothing.
-use mathlib.Core.Path.{_≡_, refl, sym, ap, _∙_}
+use mathlib.Core.Path.{_≡_, refl, sym, _∙_}
 use mathlib.Core.List.{List, foldl}
-use Prim.Native.Nat.{ℕ, _+_, _-_, _≤_}
+use Prim.Native.Nat.{ℕ, _-_, _≤_}
 use lib.Ieee.{Float}
 use lib.ListN.{length, drop, getD, drop-of-length-le}
 use Rattle.rules.specs.declared.Best.{Best}
@@ -13,10 +13,6 @@ use borrow.Author.Needs.{needs}
 use native.Mathlib.Omega.{arith}
 use Rattle.filling.proofs.winning_edge.Statement.{statement}
 use Rattle.filling.proofs.winning_edge.Tie as tie
-use Rattle.filling.proofs.winning_edge.Reads as reads
-use Rattle.filling.proofs.winning_edge.Lts as lts
-use Rattle.filling.proofs.share.Reads as share-reads
-use Rattle.filling.proofs.tighter.Reads as tighter-reads
 
 abbrev shares : List ℕ → ℕ → Float → Best
 shares load e x = share e x (getD load e 0)

@@ -1,7 +1,6 @@
 -- `credit` adds the amount once for each crossing: the loop walks the path, one store to a crossing. Assumes nothing.
 use mathlib.Core.Path.{refl}
 use Prim.Native.Nat.{_-_}
-use native.Mathlib.Omega.{arith}
 use borrow.Author.Needs.{needs}
 use lib.Ieee.{nan}
 use lib.ListN.{length}
@@ -9,8 +8,6 @@ use Rattle.doubles.specs.Doubles.{_⊕_}
 use Rattle.paths.proofs.Walk.{Walk, walk-starts, walk-one, walk-ends, place-known}
 use Rattle.paths.proofs.credit.Statement.{statement}
 use Rattle.paths.proofs.credit.Tie as tie
-use Rattle.paths.proofs.credit.Reads as reads
-use Rattle.paths.proofs.credit.Lts as lts
 
 abbrev Inv-loop : tie.InvT-loop
 Inv-loop moved₀ path amount i₀ moved i = Walk (λ m. m ⊕ amount) path moved₀ moved i

@@ -1,18 +1,14 @@
 -- `crosses` finds the edge or reaches the end: whether the rest of the path has it is whether the path has it. Assumes nothing.
-use mathlib.Core.Path.{_≡_, refl, sym, ap, _∙_}
-use mathlib.Core.Bool.{_||_, Bool}
-use Prim.Native.Nat.{_-_, _≤_, _+_}
-use native.Mathlib.Omega.{arith}
+use mathlib.Core.Path.{_≡_, refl}
+use Prim.Native.Nat.{_-_, _≤_}
 use borrow.Author.Needs.{needs}
 use borrow.Author.Tests.{eq-eqb, ne-eqb}
 use lib.Dec.{eqb}
-use lib.ListN.{length, drop, getD, drop-of-length-le}
+use lib.ListN.{length, drop, drop-of-length-le}
 use Rattle.rules.specs.Lists.{any}
 use Rattle.rules.proofs.Steps.{any-one}
 use Rattle.paths.proofs.crosses.Statement.{statement}
 use Rattle.paths.proofs.crosses.Tie as tie
-use Rattle.paths.proofs.crosses.Reads as reads
-use Rattle.paths.proofs.crosses.Lts as lts
 
 abbrev Inv-loop : tie.InvT-loop
 Inv-loop path e i₀ i = (i ≤ length path) × (any (eqb e) (drop i path) ≡ any (eqb e) path)

@@ -1,5 +1,5 @@
 -- `lower` counts one less for each crossing: the loop walks the path, and a counter never falls below the crossings left. Assumes nothing.
-use mathlib.Core.Path.{refl}
+
 use Prim.Native.Nat.{ℕ, _-_, _≤_}
 use native.Mathlib.Omega.{arith}
 use borrow.Author.Needs.{needs}
@@ -8,8 +8,6 @@ use Rattle.rules.specs.Lists.{crossings}
 use Rattle.paths.proofs.Walk.{Walk, walk-starts, walk-one, walk-ends, place-known, crossing-left, counted-one}
 use Rattle.paths.proofs.lower.Statement.{statement}
 use Rattle.paths.proofs.lower.Tie as tie
-use Rattle.paths.proofs.lower.Reads as reads
-use Rattle.paths.proofs.lower.Lts as lts
 
 abbrev Inv-loop : tie.InvT-loop
 Inv-loop load₀ path i₀ load i = Walk (λ n. n - 1) path load₀ load i × ((e : ℕ) → crossings e (drop i path) ≤ getD load e 0)
@@ -54,7 +52,7 @@ loop-less c = search needs
 
 loop-again : tie.Need-loop-again Inv-loop μ-loop
 loop-again c = (
-  walk-one 0 (c .before .before .before .loop .inv .0) (c .before .before .loop-test .taken) refl,
+  walk-one 0 (c .before .before .before .loop .inv .0) (c .before .before .loop-test .taken) (omega arith),
   counted-one (c .before .before .before .before .args .path .now) (c .before .before .before .loop .i) (c .before .before .loop-test .taken) (c .before .before .before .loop .load) (place-known (c .before .before .before .before .pre .0) (c .before .before .before .loop .inv .0) (c .before .before .loop-test .taken)) (c .before .before .before .loop .inv .1),
 )
 

@@ -1,5 +1,4 @@
 -- `raise` counts one more for each crossing: the loop walks the path, and a counter with the crossings left never passes what it holds at the end. Assumes nothing.
-use mathlib.Core.Path.{refl}
 use Prim.Native.Nat.{_+_, _-_}
 use native.Mathlib.Omega.{arith}
 use borrow.Author.Needs.{needs}
@@ -7,8 +6,6 @@ use lib.ListN.{length, getD}
 use Rattle.paths.proofs.Walk.{Walk, walk-starts, walk-one, walk-ends, place-known, crossing-left, raised-at}
 use Rattle.paths.proofs.raise.Statement.{statement}
 use Rattle.paths.proofs.raise.Tie as tie
-use Rattle.paths.proofs.raise.Reads as reads
-use Rattle.paths.proofs.raise.Lts as lts
 
 abbrev Inv-loop : tie.InvT-loop
 Inv-loop load₀ path i₀ load i = Walk (λ n. n + 1) path load₀ load i
@@ -55,7 +52,7 @@ loop-less : tie.Need-loop-less Inv-loop μ-loop
 loop-less c = search needs
 
 loop-again : tie.Need-loop-again Inv-loop μ-loop
-loop-again c = walk-one 0 (c .before .before .before .loop .inv) (c .before .before .loop-test .taken) refl
+loop-again c = walk-one 0 (c .before .before .before .loop .inv) (c .before .before .loop-test .taken) (omega arith)
 
 same-length : tie.Need-same-length Inv-loop μ-loop
 same-length c = c .before .loop .inv .long

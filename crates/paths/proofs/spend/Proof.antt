@@ -1,7 +1,5 @@
 -- `spend` takes the rate off once for each crossing: the loop walks the path, one store to a crossing. Assumes nothing.
-use mathlib.Core.Path.{_≡_, refl}
 use Prim.Native.Nat.{_-_}
-use native.Mathlib.Omega.{arith}
 use borrow.Author.Needs.{needs}
 use lib.Ieee.{nan, ofBits}
 use lib.ListN.{length}
@@ -10,9 +8,6 @@ use Rattle.rules.specs.Filling.{spend}
 use Rattle.paths.proofs.Walk.{Walk, walk-starts, walk-one, walk-ends, place-known}
 use Rattle.paths.proofs.spend.Statement.{statement}
 use Rattle.paths.proofs.spend.Tie as tie
-use Rattle.paths.proofs.spend.Reads as reads
-use Rattle.paths.proofs.spend.Lts as lts
-use Rattle.doubles.proofs.larger.Reads as larger-reads
 
 abbrev Inv-loop : tie.InvT-loop
 Inv-loop residual₀ path rate i₀ residual i = Walk (spend rate) path residual₀ residual i
@@ -52,7 +47,7 @@ loop-less c = search needs
 
 loop-again : tie.Need-loop-again Inv-loop μ-loop
 unfolding spend ofBits
-loop-again c = walk-one nan (c .before .before .before .before .loop .inv) (c .before .before .before .loop-test .taken) (rw (c .larger .ensures) refl)
+loop-again c = walk-one nan (c .before .before .before .before .loop .inv) (c .before .before .before .loop-test .taken) (rw (c .larger .ensures))
 
 same-length : tie.Need-same-length Inv-loop μ-loop
 same-length c = c .before .loop .inv .long

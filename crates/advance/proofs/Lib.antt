@@ -1,0 +1,4 @@
+pub mod Listed
+pub mod Leaving
+pub mod Arrived
+pub mod Advanced

@@ -1,0 +1,21 @@
+-- `settled` drains and then brings rates up to date, which moves nobody. Assumes nothing.
+use borrow.Author.Needs.{needs}
+use Rattle.advance.proofs.Arrived.{settled-at}
+use Rattle.advance.specs.Leaving.{settled}
+use Rattle.advance.proofs.settled.Statement.{statement}
+use Rattle.advance.proofs.settled.Tie as tie
+
+drain-to-requires : tie.Need-drain-to-requires
+drain-to-requires c κs = search needs
+
+ensure-rates-requires : tie.Need-ensure-rates-requires
+ensure-rates-requires c κs = search needs
+
+returns : tie.Need-returns
+unfolding settled
+returns c =
+    let e = rw (c .before .drain-to .ensures .0) at (c .ensure-rates .ensures .0) in
+    (e, (c .ensure-rates .ensures .1, rw e (settled-at (c .before .before .pre .0) (c .before .before .pre .1 .0) (c .before .before .pre .1 .1))))
+
+pub settled-spec : {M : Type 1} → statement M
+settled-spec = tie.close (tie.spec drain-to-requires ensure-rates-requires returns)

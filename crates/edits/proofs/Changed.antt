@@ -1,0 +1,37 @@
+-- What a change of edges leaves: a drain to the clock keeps how many edges there are, so the next number stays the next, and one edge is one store. Assumes nothing.
+use mathlib.Core.Path.{_≡_, refl}
+use mathlib.Core.List.{[], _∷_}
+use native.Mathlib.Numerals.{add-one}
+use Prim.Native.Nat.{ℕ, _+_}
+use lib.ListN.{getD, set}
+use lib.Ieee.{Float}
+use Rattle.doubles.specs.Doubles.{_⊕_, nought, read-zero}
+use Rattle.rules.specs.declared.Answer.the-variants.{Done}
+use Rattle.rules.specs.declared.Edge.{Edge}
+use Rattle.rules.specs.declared.Flows.{Flows}
+use Rattle.rules.specs.Records.{no-edge, with-edges, made-stale}
+use Rattle.rules.specs.Refusals.{_when_, refusing, answering, refused, no-such-edge}
+use Rattle.rules.specs.Calls.{drained-to-clock, edge-added, wider, edge-widened, widen}
+use Rattle.rules.specs.Invariant.{Invariant}
+use Rattle.rules.proofs.Steps.{update-is}
+use Rattle.keeps.proofs.Draining.{drained-to-clock-reaches}
+use Rattle.edits.specs.Causes.{no-widening}
+
+pub edge-added-is : (capacity : Float) {f : Flows} → Invariant f
+    → edge-added capacity f ≡ made-stale (with-edges (set (drained-to-clock f .edges) (f .«num_edges») (record { capacity = capacity; «bytes_moved» = nought; «busy_transfer_seconds» = nought })) (f .«num_edges» + 1) (drained-to-clock f))
+unfolding edge-added
+edge-added-is capacity inv = rw (drained-to-clock-reaches inv .edges, add-one)
+
+-- An edge with an amount more capacity.
+abbrev pub widened : Float → Edge → Edge
+widened amount edge = record { capacity = edge .capacity ⊕ amount; «bytes_moved» = edge .«bytes_moved»; «busy_transfer_seconds» = edge .«busy_transfer_seconds» }
+
+pub edge-widened-is : (e : ℕ) (amount : Float) (f : Flows)
+    → edge-widened e amount f ≡ made-stale (with-edges (set (drained-to-clock f .edges) e (widened amount (getD (drained-to-clock f .edges) e no-edge))) (drained-to-clock f .«num_edges») (drained-to-clock f))
+unfolding edge-widened wider
+edge-widened-is e amount f = rw (update-is e (widened amount) (drained-to-clock f .edges) no-edge)
+
+pub widen-is : (e : ℕ) (amount : Float) (f : Flows)
+    → widen e amount f ≡ refusing (1 when no-widening amount e f ∷ 3 when no-such-edge f e ∷ []) (refused f) (answering Done (edge-widened e (read-zero amount) f))
+unfolding widen no-widening
+widen-is e amount f = refl

@@ -1,0 +1,64 @@
+-- An id stands in one slot, before and after a drain, so a cancel frees the slot where the id was found; and the cancelled of a kind are fewer than the submitted while
+-- one of that kind is in flight. Assumes nothing.
+use Prim.Native.Nat.{ℕ, _+_, _<_, _^_}
+use native.Mathlib.Omega.{arith}
+use mathlib.Core.Path.{_≡_, refl, sym, ap, _∙_}
+use mathlib.Core.Bool.{Bool, true, false, _&&_, cond, true≢false}
+use mathlib.Core.List.{map}
+use lib.Dec.{eqb}
+use borrow.Author.Tests.{eqb-true, eq-eqb}
+use lib.ListN.{getD, set}
+use Rattle.rules.specs.declared.Owner.{Owner}
+use Rattle.rules.specs.declared.Transfer.{Transfer}
+use Rattle.rules.specs.declared.Flows.{Flows}
+use Rattle.rules.specs.Records.{free, has-id, owner-kind, tally-of, with-in-flight, with-totals, made-stale, on-tally}
+use Rattle.rules.specs.Calls.{drained-to-clock, count-cancelled, owner-of, cancelled}
+use Rattle.rules.specs.Invariant.{of-kind, Invariant}
+use Rattle.slots.proofs.Found.{Found}
+use Rattle.keeps.proofs.Crowd.{Who, same-at, same-length}
+use Rattle.keeps.proofs.Counts.{count-set}
+use Rattle.keeps.proofs.Tally.{on-tally-is}
+use Rattle.keeps.proofs.Draining.{drained-to-clock-keeps, drained-to-clock-reaches}
+use Rattle.edits.proofs.OneChanged.{one-changed}
+
+-- who has an id is in flight under it
+holds-id : (id : ℕ) (t : Transfer) → has-id id t ≡ true → (t .taken ≡ true) × (t .id ≡ id)
+unfolding has-id
+holds-id id t e = go (t .taken) refl e
+  where
+    go : (b : Bool) → t .taken ≡ b → (b && eqb (t .id) id) ≡ true → (t .taken ≡ true) × (t .id ≡ id)
+    go true taken h = (taken, eqb-true (t .id) id h)
+    go false taken h = absurd (true≢false (sym h))
+
+module _ (id i : ℕ) {f : Flows} (inv : Invariant f) (found : Found id (f .«in_flight») i) where
+  abbrev d : Flows
+  d = drained-to-clock f
+
+  -- where it stood it stands
+  still-there : has-id id (getD (d .«in_flight») i free) ≡ true
+  unfolding has-id
+  still-there = ap (λ (w : Who). w .taken && eqb (w .id) id) (same-at (drained-to-clock-reaches inv .alike) i) ∙ found .holds
+
+  freed-is : map (λ t. cond (has-id id t) free t) (d .«in_flight») ≡ set (d .«in_flight») i free
+  freed-is =
+      let here = holds-id id (getD (d .«in_flight») i free) still-there in
+      one-changed (has-id id) free free (d .«in_flight») i (omega (arith, same-length (drained-to-clock-reaches inv .alike), found .inside)) still-there (λ j l e.
+      let there = holds-id id (getD (d .«in_flight») j free) e in
+      drained-to-clock-keeps inv .ids-differ j i (there .0) (here .0) (there .1 ∙ sym (here .1)))
+
+  abbrev whose : Owner
+  whose = getD (f .«in_flight») i free .owner
+
+  pub cancelled-is : let counted = on-tally whose count-cancelled d in cancelled id f ≡ made-stale (with-in-flight (set (counted .«in_flight») i free) counted)
+  unfolding cancelled owner-of with-totals
+  cancelled-is = rw (found .of-some (free .owner) (λ t. t .owner), on-tally-is count-cancelled whose d, freed-is)
+
+  -- one of its kind is in flight, so there is room for one more cancelled
+  pub room-to-cancel : tally-of whose (f .totals) .cancelled + 1 < 2 ^ 64
+  unfolding of-kind
+  room-to-cancel =
+      let t = getD (f .«in_flight») i free in
+      let b = inv .balanced whose in
+      let one : of-kind (owner-kind whose) t ≡ true = rw (holds-id id t (found .holds) .0) (eq-eqb (owner-kind whose) (owner-kind whose) refl) in
+      let step = rw one at (count-set (of-kind (owner-kind whose)) (f .«in_flight») i free free (found .inside)) in
+      omega (arith, b .accounted, b .fits, step)

@@ -1,0 +1,50 @@
+-- `no_widening` reads a capacity only of an edge that is there. Assumes nothing.
+use borrow.Author.Needs.{needs}
+use native.Mathlib.Omega.{arith}
+use mathlib.Core.Path.{_≡_, sym, _∙_}
+use borrow.Author.Tests.{le-leb, lt-leb}
+use Rattle.rules.specs.Refusals.{no-such-edge}
+use Rattle.rules.specs.Calls.{wider}
+use Rattle.rules.specs.Records.{no-edge}
+use Rattle.rules.proofs.Steps.{getD-any}
+use Rattle.edits.specs.Causes.{no-widening}
+use Rattle.edits.proofs.no_widening.Statement.{statement}
+use Rattle.edits.proofs.no_widening.Tie as tie
+
+not-a-number-requires : tie.Need-not-a-number-requires
+not-a-number-requires c κs = search needs
+
+returns : tie.Need-returns
+unfolding no-widening
+returns c = rw (sym (c .before .not-a-number .ensures) ∙ c .if1 .taken)
+
+returns-2 : tie.Need-returns-2
+unfolding no-widening no-such-edge
+returns-2 c = rw (sym (c .before .before .before .not-a-number .ensures) ∙ c .before .before .if1 .left, le-leb (c .before .before .before .before .args .flows .«num_edges») (c .before .before .before .before .args .e) (omega arith))
+
+mul-not-an-amount : tie.Need-mul-not-an-amount
+mul-not-an-amount c = search needs
+
+element-copy-out-not-an-amount : tie.Need-element-copy-out-not-an-amount
+element-copy-out-not-an-amount c = search needs
+
+not-an-amount-requires : tie.Need-not-an-amount-requires
+not-an-amount-requires c κs = search needs
+
+returns-3 : tie.Need-returns-3
+unfolding no-widening no-such-edge wider
+returns-3 c =
+    rw (sym (c .before .before .before .before .before .not-a-number .ensures) ∙ c .before .before .before .before .if1 .left, lt-leb (c .before .before .before .before .before .before .args .flows .«num_edges») (c .before .before .before .before .before .before .args .e) (omega arith))
+    (rw (getD-any (c .before .before .before .before .before .before .args .flows .edges) (c .before .before .before .before .before .before .args .e) _ no-edge (omega arith)) at (c .not-an-amount .ensures))
+
+pub no-widening-spec : {M : Type 1} → statement M
+no-widening-spec =
+    tie.close
+    (tie.spec
+    not-a-number-requires
+    returns
+    returns-2
+    mul-not-an-amount
+    element-copy-out-not-an-amount
+    not-an-amount-requires
+    returns-3)

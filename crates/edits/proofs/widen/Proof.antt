@@ -1,0 +1,72 @@
+-- `widen` tests the capacity of the simulator as it came, changes that of the drained one, and leaves what the edge has moved. Assumes nothing.
+use borrow.Author.Needs.{needs}
+use native.Mathlib.Omega.{arith}
+use borrow.Author.Tests.{le-leb, lt-leb}
+use denote.Floats.{passes}
+use mathlib.Core.Path.{_≡_, sym, _∙_}
+use Rattle.rules.specs.Records.{no-edge, with-edges}
+use Rattle.rules.specs.Refusals.{refusing, no-such-edge}
+use Rattle.rules.specs.Calls.{drained-to-clock}
+use Rattle.rules.proofs.Steps.{getD-any}
+use Rattle.keeps.proofs.Calls.{widen-keeps}
+use Rattle.edits.proofs.Kept.{kept}
+use Rattle.edits.proofs.Changed.{edge-widened-is, widen-is}
+use Rattle.edits.proofs.widen.Statement.{statement}
+use Rattle.edits.proofs.widen.Tie as tie
+
+no-widening-requires : tie.Need-no-widening-requires
+no-widening-requires c κs = search needs
+
+returns : tie.Need-returns
+unfolding refusing
+returns c = kept (widen-keeps (c .before .before .args .edge) (c .before .before .args .bytes-per-sec) (c .before .before .args .flows) (search needs) (c .before .before .pre)) (rw (widen-is, sym (c .before .no-widening .ensures) ∙ c .if1 .taken))
+
+returns-2 : tie.Need-returns-2
+unfolding refusing no-such-edge
+returns-2 c =
+    kept (widen-keeps (c .before .before .before .before .args .edge) (c .before .before .before .before .args .bytes-per-sec) (c .before .before .before .before .args .flows) (search needs) (c .before .before .before .before .pre))
+    (rw (widen-is, sym (c .before .before .before .no-widening .ensures) ∙ c .before .before .if1 .left, le-leb (c .before .before .before .before .args .flows .«num_edges») (c .before .before .before .before .args .edge) (omega arith)))
+
+read-zero-requires : tie.Need-read-zero-requires
+read-zero-requires c κs = search needs
+
+drained-to-clock-requires : tie.Need-drained-to-clock-requires
+drained-to-clock-requires c κs = search needs
+
+mul-widened : tie.Need-mul-widened
+mul-widened c = search needs
+
+element-copy-out-widened : tie.Need-element-copy-out-widened
+element-copy-out-widened c = search needs
+
+mul-widened-2 : tie.Need-mul-widened-2
+mul-widened-2 c = search needs
+
+way-write-given-widened : tie.Need-way-write-given-widened
+way-write-given-widened c = search needs
+
+made-stale-requires : tie.Need-made-stale-requires
+made-stale-requires c κs = search needs
+
+returns-3 : tie.Need-returns-3
+unfolding refusing no-such-edge with-edges
+returns-3 c =
+    kept (widen-keeps (c .before .before .before .before .before .before .before .before .args .edge) (c .before .before .before .before .before .before .before .before .args .bytes-per-sec) (c .before .before .before .before .before .before .before .before .args .flows) (passes _ (c .before .before .before .before .before .before .before .before .good .1 .1 .0 .1)) (c .before .before .before .before .before .before .before .before .pre))
+    (rw (widen-is, sym (c .before .before .before .before .before .before .before .no-widening .ensures) ∙ c .before .before .before .before .before .before .if1 .left, lt-leb (c .before .before .before .before .before .before .before .before .args .flows .«num_edges») (c .before .before .before .before .before .before .before .before .args .edge) (omega arith), edge-widened-is, ← c .before .before .drained-to-clock .ensures .0, ← c .before .before .before .read-zero .ensures)
+    (cc (rw (getD-any (c .before .before .drained-to-clock .result .edges) (c .before .before .before .before .before .before .before .before .args .edge) _ no-edge (omega (arith, c .before .before .before .before .if2 .left, c .before .before .before .before .before .before .before .before .pre .few-edges, c .before .before .drained-to-clock .ensures .1 .edge-places))) at (c .made-stale .ensures))))
+
+pub widen-spec : {M : Type 1} → statement M
+widen-spec =
+    tie.close
+    (tie.spec
+    no-widening-requires
+    returns
+    returns-2
+    read-zero-requires
+    drained-to-clock-requires
+    mul-widened
+    element-copy-out-widened
+    mul-widened-2
+    way-write-given-widened
+    made-stale-requires
+    returns-3)

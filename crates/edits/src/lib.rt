@@ -1,0 +1,117 @@
+// The calls that change edges, and cancel. Each tests its refusals first, lowest number first, then drains to the clock, makes its change and leaves rates stale.
+use rules::Answer;
+use rules::Edge;
+use rules::Flows;
+use rules::Outcome;
+use rules::Transfer;
+use slots::Lookup;
+ghost use mathlib.Core.Path.{_≡_};
+ghost use Rattle.rules.specs.Calls.{add-edge, widen, cancel};
+ghost use Rattle.rules.specs.Invariant.{Invariant};
+ghost use Rattle.edits.specs.Causes.{no-widening};
+
+// One more edge, which gets the next number.
+pub fn add_edge(flows: Flows, capacity: f64) -> Outcome
+    requires { ⌜ Invariant flows ⌝ }
+    ensures exactly { λ r. ⌜ r ≡ add-edge capacity flows ⌝ }
+    ensures sound { λ r. ⌜ Invariant (r .flows) ⌝ }
+{
+    if arguments::not_an_amount(capacity) {
+        return Outcome {
+            answer: Answer::Refused(1),
+            flows: flows,
+        };
+    }
+    let e = flows.num_edges;
+    if 64 <= e {
+        return Outcome {
+            answer: Answer::Refused(7),
+            flows: flows,
+        };
+    }
+    let read = doubles::read_zero(capacity);
+    let edge = Edge {
+        capacity: read,
+        bytes_moved: 0.0,
+        busy_transfer_seconds: 0.0,
+    };
+    let mut grown = clock::drained_to_clock(flows);
+    grown.edges[e] = edge;
+    grown.num_edges = e + 1;
+    let stale = clock::made_stale(grown);
+    let number = e as u32;
+    Outcome {
+        answer: Answer::Added(number),
+        flows: stale,
+    }
+}
+
+// An amount of either sign added to an edge's capacity, from the clock on.
+pub fn widen(flows: Flows, edge: u32, bytes_per_sec: f64) -> Outcome
+    requires { ⌜ Invariant flows ⌝ }
+    ensures exactly { λ r. ⌜ r ≡ widen edge «bytes_per_sec» flows ⌝ }
+    ensures sound { λ r. ⌜ Invariant (r .flows) ⌝ }
+{
+    let e = edge as usize;
+    if no_widening(flows, e, bytes_per_sec) {
+        return Outcome {
+            answer: Answer::Refused(1),
+            flows: flows,
+        };
+    }
+    if flows.num_edges <= e {
+        return Outcome {
+            answer: Answer::Refused(3),
+            flows: flows,
+        };
+    }
+    let amount = doubles::read_zero(bytes_per_sec);
+    let mut widened = clock::drained_to_clock(flows);
+    widened.edges[e].capacity = widened.edges[e].capacity + amount;
+    let stale = clock::made_stale(widened);
+    Outcome {
+        answer: Answer::Done,
+        flows: stale,
+    }
+}
+
+// Whether an amount is no number, or would leave an edge that is there without a capacity.
+fn no_widening(flows: Flows, e: usize, amount: f64) -> bool
+    requires { ⌜ Invariant flows ⌝ }
+    ensures { λ r. ⌜ r ≡ no-widening amount e flows ⌝ }
+{
+    if arguments::not_a_number(amount) {
+        return true;
+    }
+    if flows.num_edges <= e {
+        return false;
+    }
+    let edges = flows.edges;
+    arguments::not_an_amount(edges[e].capacity + amount)
+}
+
+// A transfer is given up; what it has moved stays counted.
+pub fn cancel(flows: Flows, id: u32) -> Outcome
+    requires { ⌜ Invariant flows ⌝ }
+    ensures exactly { λ r. ⌜ r ≡ cancel id flows ⌝ }
+    ensures sound { λ r. ⌜ Invariant (r .flows) ⌝ }
+{
+    let in_flight = flows.in_flight;
+    let Lookup::Slot(i) = slots::find(in_flight, id) else {
+        return Outcome {
+            answer: Answer::Unknown,
+            flows: flows,
+        };
+    };
+    let given_up = in_flight[i];
+    let owner = given_up.owner;
+    let drained = clock::drained_to_clock(flows);
+    let mut freed = tallies::cancelled(drained, owner);
+    let free = Transfer::free();
+    freed.in_flight[i] = free;
+    let stale = clock::made_stale(freed);
+    Outcome {
+        answer: Answer::Done,
+        flows: stale,
+    }
+}

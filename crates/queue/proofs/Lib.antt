@@ -1,0 +1,3 @@
+pub mod Taken
+pub mod Order
+pub mod Placed
