@@ -83,7 +83,7 @@ pub fn route_of(path: &[u32]) -> Route
 }
 
 // A u32 as an edge number.
-fn wide(x: u32) -> usize
+pub fn wide(x: u32) -> usize
     ensures { λ r. ⌜ r ≡ x ⌝ }
 {
     x as usize

@@ -9,7 +9,7 @@ use Rattle.doubles.specs.Doubles.{_⊕_, nought, read-zero}
 use Rattle.rules.specs.declared.Answer.the-variants.{Done}
 use Rattle.rules.specs.declared.Edge.{Edge}
 use Rattle.rules.specs.declared.Flows.{Flows}
-use Rattle.rules.specs.Records.{no-edge, with-edges, made-stale}
+use Rattle.rules.specs.Records.{with-edges, made-stale}
 use Rattle.rules.specs.Refusals.{_when_, refusing, answering, refused, no-such-edge}
 use Rattle.rules.specs.Calls.{drained-to-clock, edge-added, wider, edge-widened, widen}
 use Rattle.rules.specs.Invariant.{Invariant}
@@ -26,10 +26,11 @@ edge-added-is capacity inv = rw (drained-to-clock-reaches inv .edges, add-one)
 abbrev pub widened : Float → Edge → Edge
 widened amount edge = record { capacity = edge .capacity ⊕ amount; «bytes_moved» = edge .«bytes_moved»; «busy_transfer_seconds» = edge .«busy_transfer_seconds» }
 
-pub edge-widened-is : (e : ℕ) (amount : Float) (f : Flows)
-    → edge-widened e amount f ≡ made-stale (with-edges (set (drained-to-clock f .edges) e (widened amount (getD (drained-to-clock f .edges) e no-edge))) (drained-to-clock f .«num_edges») (drained-to-clock f))
+-- whatever would be read past the last edge
+pub edge-widened-is : (e : ℕ) (amount : Float) (f : Flows) (past : Edge)
+    → edge-widened e amount f ≡ made-stale (with-edges (set (drained-to-clock f .edges) e (widened amount (getD (drained-to-clock f .edges) e past))) (drained-to-clock f .«num_edges») (drained-to-clock f))
 unfolding edge-widened wider
-edge-widened-is e amount f = rw (update-is e (widened amount) (drained-to-clock f .edges) no-edge)
+edge-widened-is e amount f past = rw (update-is e (widened amount) (drained-to-clock f .edges) past)
 
 pub widen-is : (e : ℕ) (amount : Float) (f : Flows)
     → widen e amount f ≡ refusing (1 when no-widening amount e f ∷ 3 when no-such-edge f e ∷ []) (refused f) (answering Done (edge-widened e (read-zero amount) f))

@@ -14,7 +14,9 @@ use Rattle.rules.specs.declared.Flows.{Flows}
 use Rattle.rules.specs.Records.{free, has-id, owner-kind, tally-of, with-in-flight, with-totals, made-stale, on-tally}
 use Rattle.rules.specs.Calls.{drained-to-clock, count-cancelled, owner-of, cancelled}
 use Rattle.rules.specs.Invariant.{of-kind, Invariant}
-use Rattle.slots.proofs.Found.{Found}
+use Rattle.slots.specs.declared.Lookup.the-variants.{Slot}
+use Rattle.slots.specs.Lookup.{lookup}
+use Rattle.slots.proofs.Found.{Found, somewhere}
 use Rattle.keeps.proofs.Crowd.{Who, same-at, same-length}
 use Rattle.keeps.proofs.Counts.{count-set}
 use Rattle.keeps.proofs.Tally.{on-tally-is}
@@ -29,6 +31,15 @@ holds-id id t e = go (t .taken) refl e
     go : (b : Bool) → t .taken ≡ b → (b && eqb (t .id) id) ≡ true → (t .taken ≡ true) × (t .id ≡ id)
     go true taken h = (taken, eqb-true (t .id) id h)
     go false taken h = absurd (true≢false (sym h))
+
+module _ {f : Flows} (inv : Invariant f) where
+  -- a slot that was found is one of the table's
+  pub found-below : (id : ℕ) {i : ℕ} → lookup id (f .«in_flight») ≡ Slot i → i < 256
+  found-below id {i} e = omega (arith, inv .slot-places, somewhere id (f .«in_flight») i e .inside)
+
+  -- a drain counts nobody
+  pub drained-tally : (owner : Owner) → tally-of owner (drained-to-clock f .totals) .cancelled ≡ tally-of owner (f .totals) .cancelled
+  drained-tally owner = rw (drained-to-clock-reaches inv .totals)
 
 module _ (id i : ℕ) {f : Flows} (inv : Invariant f) (found : Found id (f .«in_flight») i) where
   abbrev d : Flows

@@ -19,7 +19,8 @@ use Rattle.rules.proofs.Steps.{length-map-from}
 use Rattle.transfers.proofs.Conds.{by-test}
 use Rattle.transfers.proofs.Monotone.{plain-le-trans}
 use Rattle.transfers.proofs.Stalls.{elapsed}
-use Rattle.transfers.proofs.EdgesKeep.{loads-away, few-loads, busy-sound, busy-away}
+use Rattle.transfers.proofs.Loads.{few-loads}
+use Rattle.transfers.proofs.EdgesKeep.{loads-away, busy-sound, busy-away}
 use Rattle.keeps.proofs.Parts.{EdgesSound, SlotsSound, parts, joined}
 use Rattle.keeps.proofs.Crowd.{Alike, same-crowd, same-totals, same-rates}
 use Rattle.keeps.proofs.Drained.{sound-in}
@@ -66,7 +67,7 @@ pub busied-sound : (f : Flows) (dt : Float) (slots : List Transfer) (edges : Lis
 busied-sound f dt slots edges each room time sound = by-test (λ (after : List Edge). EdgesSound after (f .«num_edges»)) (nought ≺ dt) (λ passed. record {
   places = length-map-from 0 (λ e edge. gain-busy dt (crossings-by counts-in-loads own-path slots e) edge) edges ∙ sound .places;
   few = sound .few;
-  sound = busy-sound dt (crossings-by counts-in-loads own-path slots) edges (λ e. omega (arith, few-loads slots e, room)) time (sound .sound);
+  sound = busy-sound dt (crossings-by counts-in-loads own-path slots) edges (λ e. omega (arith, few-loads counts-in-loads slots e, room)) time (sound .sound);
   blank = λ e past. busy-away dt (crossings-by counts-in-loads own-path slots) edges e (loads-away {f = f} e past slots each) ∙ sound .blank e past;
 }) sound
 

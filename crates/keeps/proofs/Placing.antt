@@ -19,7 +19,8 @@ use Rattle.keeps.proofs.Counts.{one-if}
 
 -- ---- the path
 
-known-by : (n : ℕ) (path : List ℕ) → any (λ e. leb n e) path ≡ false → (k : ℕ) → k < length path → getD path k 0 < n
+-- a path that names no missing edge names known ones
+pub known-by : (n : ℕ) (path : List ℕ) → any (λ e. leb n e) path ≡ false → (k : ℕ) → k < length path → getD path k 0 < n
 unfolding any
 known-by n [] h k l = absurd (omega arith)
 known-by n (e ∷ path) h zero l = leb-false n e (neither (leb n e) (any (λ e. leb n e) path) h .0)

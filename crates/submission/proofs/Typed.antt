@@ -4,7 +4,6 @@ use lib.Dec.{T}
 use borrow.Author.Needs.{needs}
 use mir.Val.{Val}
 use denote.Laws.{Is}
-use denote.Floats.{passes}
 use denote.Enum.Declared.{row}
 use Rattle.rules.proofs.Cap.{the-type}
 use Rattle.rules.specs.declared.Cap.{Cap}

@@ -8,17 +8,15 @@ use rules::Transfer;
 use slots::Lookup;
 ghost use mathlib.Core.Path.{_≡_};
 ghost use mathlib.Core.Bool.{_||_};
-ghost use mathlib.Core.List.{[], _∷_};
 ghost use Prim.Native.Nat.{_≤_, _<_, _+_, _-_, _^_};
 ghost use lib.Dec.{T, eqb};
 ghost use lib.ListN.{length};
 ghost use Rattle.doubles.specs.Doubles.{_≼_, read-zero};
-ghost use Rattle.rules.specs.declared.Answer.the-variants.{Done};
 ghost use Rattle.rules.specs.Records.{contains, num-in-flight, tally-of};
-ghost use Rattle.rules.specs.Refusals.{_when_, refusing, answering, refused, not-a-number, not-a-cap, not-a-time, is-full, read-cap};
+ghost use Rattle.rules.specs.Refusals.{refused, not-a-number, not-a-cap, not-a-time, is-full, read-cap};
 ghost use Rattle.rules.specs.Calls.{submitted-transfer, submit-capped, submit};
 ghost use Rattle.rules.specs.Invariant.{ClockTime, Invariant};
-ghost use Rattle.submission.specs.Started.{inserted, started};
+ghost use Rattle.submission.specs.Started.{inserted, started, start};
 
 // A transfer starts, with no cap of its own.
 pub fn submit(
@@ -117,7 +115,7 @@ fn start(flows: Flows, transfer: Transfer, bytes: u64) -> Outcome
     requires sound { ⌜ Invariant flows ⌝ }
     requires time { ⌜ ClockTime (transfer .«last_update») ⌝ }
     requires later { ⌜ T (flows .clock .now ≼ transfer .«last_update») ⌝ }
-    ensures { λ r. ⌜ r ≡ refusing (6 when contains (transfer .id) flows ∷ 7 when is-full flows ∷ 9 when eqb (tally-of (transfer .owner) (flows .totals) .submitted) (2 ^ 64 - 1) ∷ []) (refused flows) (answering Done (started transfer bytes flows)) ⌝ }
+    ensures { λ r. ⌜ r ≡ start transfer bytes flows ⌝ }
 {
     if contains(flows, transfer.id) {
         return refused(flows, 6);

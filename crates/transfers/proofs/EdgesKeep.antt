@@ -1,7 +1,7 @@
 -- What a drain keeps of the edges: there are as many, each stays sound, and those that nobody crosses stay as they were. Assumes nothing.
 use mathlib.Core.Path.{_≡_, refl, sym, ap, _∙_}
 use mathlib.Core.Bool.{Bool, true, false, _&&_, cond}
-use mathlib.Core.List.{List, [], _∷_, map, foldl}
+use mathlib.Core.List.{List, [], _∷_, foldl}
 use Prim.Native.Nat.{ℕ, zero, suc, _+_, _≤_, _<_}
 use native.Mathlib.Nat.{add-zero, zero-add}
 use native.Mathlib.Omega.{arith}
@@ -23,7 +23,6 @@ use Rattle.paths.specs.Known.{Known}
 use Rattle.paths.proofs.PerEdge.{length-crossing}
 use Rattle.paths.proofs.Routes.{known-route, known-more}
 use Rattle.transfers.proofs.Conds.{by-test}
-use Rattle.transfers.proofs.Loads.{few-crossings}
 use Rattle.transfers.proofs.Stalls.{moved-summed, busy-summed}
 use Rattle.transfers.proofs.DrainKeeps.{late-enough, flow-plain, flow-bound}
 
@@ -123,16 +122,6 @@ module _ {f : Flows} (e : ℕ) (past : f .«num_edges» ≤ e) where
       none false q = refl
 
 -- ---- load integrals
--- no edge is crossed more often than the paths are long
-pub few-loads : (slots : List Transfer) (e : ℕ) → crossings-by counts-in-loads own-path slots e ≤ sum (map (λ t. length (own-path t)) slots)
-unfolding crossings-by sum
-few-loads [] e = omega arith
-few-loads (t ∷ slots) e = omega (arith, some (counts-in-loads t), few-loads slots e)
-  where
-    some : (b : Bool) → cond b (crossings e (own-path t)) 0 ≤ length (own-path t)
-    some true = few-crossings e (own-path t)
-    some false = omega arith
-
 module _ (dt : Float) (load : ℕ → ℕ) where
   busy-from : (n : ℕ) (edges : List Edge) → ((e : ℕ) → load e ≤ 2048) → ClockTime dt → Each SoundEdge no-edge edges → Each SoundEdge no-edge (map-from n (λ e edge. gain-busy dt (load e) edge) edges)
   unfolding map-from

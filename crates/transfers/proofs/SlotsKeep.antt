@@ -15,7 +15,7 @@ use Rattle.rules.specs.Lists.{Each, count, sum, crossings}
 use Rattle.rules.specs.Records.{max-edges, free, own-path, counts-in-loads, crossings-by}
 use Rattle.rules.specs.Clock.{drained}
 use Rattle.rules.specs.Invariant.{SoundSlot}
-use Rattle.transfers.specs.Tables.{loads}
+use Rattle.transfers.specs.Tables.{loads-by, loads}
 use Rattle.transfers.proofs.Places.{map-from-same}
 use Rattle.transfers.proofs.DrainKeeps.{Same, drained-same, drained-free, drained-time, slot-kept}
 
@@ -54,7 +54,7 @@ crossings-drained until slots e =
 
 -- so loads can be counted before the drain or after it
 pub loads-drained : (until : Float) (slots : List Transfer) → loads (map (drained until) slots) ≡ loads slots
-unfolding loads
+unfolding loads-by
 loads-drained until slots =
     map-from-same 0 (λ e (n : ℕ). crossings-by counts-in-loads own-path (map (drained until) slots) e) (λ e (n : ℕ). crossings-by counts-in-loads own-path slots e) (replicate max-edges 0) (λ e n q. crossings-drained until slots e)
 

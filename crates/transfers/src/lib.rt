@@ -17,7 +17,13 @@ ghost use Rattle.rules.specs.Done.{is-done, time-to-done, sooner};
 ghost use Rattle.rules.specs.Clock.{soonest, ahead, latency-paid, flowing-time, moves, bytes-flowing, drained, deliver, gain-busy};
 ghost use Rattle.rules.specs.Invariant.{SoundRoute};
 ghost use Rattle.paths.specs.Known.{Roomy};
-ghost use Rattle.transfers.specs.Tables.{credited, counted, loads, with-moved};
+ghost use Rattle.transfers.specs.Tables.{credited, counts, counted, loads-by, loads, with-moved};
+
+// Whose crossings are counted in a load: everybody's in flight, or theirs alone who take part in a filling.
+pub enum Counted {
+    InFlight,
+    TakingPart,
+}
 
 // ---- three predicates, each the one place where its question is decided
 
@@ -37,6 +43,16 @@ pub fn counts_in_loads(t: Transfer) -> bool
     ensures { λ r. ⌜ r ≡ counts-in-loads t ⌝ }
 {
     t.taken
+}
+
+// Whether a transfer is one of those counted.
+fn counts(who: Counted, t: Transfer) -> bool
+    ensures { λ r. ⌜ r ≡ counts who t ⌝ }
+{
+    match who {
+        Counted::InFlight => counts_in_loads(t),
+        Counted::TakingPart => takes_part(t),
+    }
 }
 
 // Whether a transfer moves bytes when it is drained to a time.
@@ -274,24 +290,33 @@ pub fn edge_loads(in_flight: [Transfer; 256]) -> [usize; 64]
     requires room { ⌜ sum (map (λ t. length (own-path t)) in_flight) ≤ 2048 ⌝ }
     ensures { λ r. ⌜ r ≡ loads in_flight ⌝ }
 {
+    loads_of(in_flight, Counted::InFlight)
+}
+
+// The crossings of each edge by some of the transfers.
+pub fn loads_of(in_flight: [Transfer; 256], who: Counted) -> [usize; 64]
+    requires routes { ⌜ Each (λ t. SoundRoute 64 (t .path)) free in_flight ⌝ }
+    requires room { ⌜ sum (map (λ t. length (own-path t)) in_flight) ≤ 2048 ⌝ }
+    ensures { λ r. ⌜ r ≡ loads-by (counts who) in_flight ⌝ }
+{
     let mut load: [usize; 64] = [0; 64];
     let mut i: usize = 0;
     while i < 256 {
         let t = in_flight[i];
-        count(&mut load, t);
+        count(&mut load, t, who);
         i += 1;
     }
     load
 }
 
 // One transfer's crossings counted.
-fn count(load: &mut [usize], t: Transfer)
+fn count(load: &mut [usize], t: Transfer, who: Counted)
     requires places { ⌜ length (now load) ≡ 64 ⌝ }
     requires path { ⌜ SoundRoute 64 (t .path) ⌝ }
     requires roomy { ⌜ Roomy (own-path t) (now load) ⌝ }
-    ensures { λ _. ⌜ now (load .exit) ≡ counted (now (load .entry)) t ⌝ }
+    ensures { λ _. ⌜ now (load .exit) ≡ counted (counts who) (now (load .entry)) t ⌝ }
 {
-    if counts_in_loads(t) {
+    if counts(who, t) {
         let path = t.path;
         let hops = path.hops;
         let len = path.len;

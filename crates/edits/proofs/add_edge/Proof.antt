@@ -2,7 +2,7 @@
 use borrow.Author.Needs.{needs}
 use native.Mathlib.Omega.{arith}
 use borrow.Author.Tests.{le-leb, lt-leb}
-use mathlib.Core.Path.{_≡_, sym, _∙_}
+use mathlib.Core.Path.{sym, _∙_}
 use Rattle.rules.specs.Records.{with-edges}
 use Rattle.rules.specs.Refusals.{refusing}
 use Rattle.rules.specs.Calls.{add-edge}
@@ -48,7 +48,7 @@ returns-3 : tie.Need-returns-3
 unfolding add-edge refusing with-edges
 returns-3 c =
     kept (add-edge-keeps (c .before .before .before .before .before .before .args .capacity) (c .before .before .before .before .before .before .args .flows) (search needs) (c .before .before .before .before .before .before .pre))
-    (rw (sym (c .before .before .before .before .before .not-an-amount .ensures) ∙ c .before .before .before .before .if1 .left, lt-leb 64 (c .before .before .before .before .before .before .args .flows .«num_edges») (omega arith), edge-added-is _ (c .before .before .before .before .before .before .pre), ← c .before .drained-to-clock .ensures .0, ← c .before .before .read-zero .ensures) (cc (c .made-stale .ensures)))
+    (rw (sym (c .before .before .before .before .before .not-an-amount .ensures) ∙ c .before .before .before .before .if1 .left, lt-leb 64 (c .before .before .before .before .before .before .args .flows .«num_edges») (omega arith), edge-added-is _ (c .before .before .before .before .before .before .pre), c .made-stale .ensures, ← c .before .drained-to-clock .ensures .0, ← c .before .before .read-zero .ensures))
 
 pub add-edge-spec : {M : Type 1} → statement M
 add-edge-spec =

@@ -1,18 +1,16 @@
 -- `cancel` frees the one slot where the id was found, which is there after the drain too, and counts it for its owner. Assumes nothing.
 use borrow.Author.Needs.{needs}
 use native.Mathlib.Omega.{arith}
-use mathlib.Core.Path.{_≡_, sym, ap, _∙_}
+use mathlib.Core.Path.{sym, ap, _∙_}
 use lib.ListN.{getD}
-use Rattle.rules.specs.declared.Totals.{Totals}
 use Rattle.rules.specs.declared.Flows.{Flows}
 use Rattle.rules.specs.Records.{free, contains, tally-of, with-in-flight}
 use Rattle.rules.specs.Calls.{cancel}
 use Rattle.rules.proofs.Steps.{getD-any}
 use Rattle.slots.proofs.Found.{nowhere, somewhere}
-use Rattle.keeps.proofs.Draining.{drained-to-clock-reaches}
 use Rattle.keeps.proofs.Calls.{cancel-keeps}
 use Rattle.edits.proofs.Kept.{kept}
-use Rattle.edits.proofs.Freed.{cancelled-is, room-to-cancel}
+use Rattle.edits.proofs.Freed.{found-below, drained-tally, cancelled-is, room-to-cancel}
 use Rattle.edits.proofs.cancel.Statement.{statement}
 use Rattle.edits.proofs.cancel.Tie as tie
 
@@ -30,29 +28,31 @@ unfolding cancel contains
 returns c = kept (cancel-keeps (c .before .before .before .before .args .id) (c .before .before .before .before .args .flows) (c .before .before .before .before .pre)) (rw (nowhere (c .before .before .before .before .args .id) (c .before .before .before .before .args .flows .«in_flight») (sym (c .before .before .find .ensures) ∙ c .enum-told .given .1) .none-has))
 
 mul-given-up : tie.Need-mul-given-up
-mul-given-up c = omega (arith, c .before .before .before .before .before .pre .slot-places, somewhere (c .before .before .before .before .before .args .id) (c .before .before .before .before .before .args .flows .«in_flight») _ (sym (c .before .before .before .find .ensures) ∙ c .before .i .given .1) .inside)
+mul-given-up c = omega (arith, found-below (c .before .before .before .before .before .pre) (c .before .before .before .before .before .args .id) (sym (c .before .before .before .find .ensures) ∙ c .before .i .given .1))
 
 array-copy-out-given-up : tie.Need-array-copy-out-given-up
-array-copy-out-given-up c = omega (arith, c .before .before .before .before .before .pre .slot-places, somewhere (c .before .before .before .before .before .args .id) (c .before .before .before .before .before .args .flows .«in_flight») _ (sym (c .before .before .before .find .ensures) ∙ c .before .i .given .1) .inside)
+array-copy-out-given-up c = omega (arith, found-below (c .before .before .before .before .before .pre) (c .before .before .before .before .before .args .id) (sym (c .before .before .before .find .ensures) ∙ c .before .i .given .1))
 
 drained-to-clock-requires : tie.Need-drained-to-clock-requires
 drained-to-clock-requires c κs = search needs
 
 cancelled-requires : tie.Need-cancelled-requires
 cancelled-requires c κs =
-    let found = somewhere (c .before .before .before .before .before .before .before .args .id) (c .before .before .before .before .before .before .before .args .flows .«in_flight») _ (sym (c .before .before .before .before .before .find .ensures) ∙ c .before .before .before .i .given .1) in
-    let same : c .drained-to-clock .result .totals ≡ c .before .before .before .before .before .before .before .args .flows .totals = ap (λ (g : Flows). g .totals) (c .drained-to-clock .ensures .0) ∙ drained-to-clock-reaches (c .before .before .before .before .before .before .before .pre) .totals in
-    rw (getD-any (c .before .before .before .before .before .before .before .args .flows .«in_flight») (c .before .before .before .i .given .0 .0) _ free (found .inside))
-    (omega (arith, room-to-cancel (c .before .before .before .before .before .before .before .args .id) (c .before .before .before .i .given .0 .0) (c .before .before .before .before .before .before .before .pre) found, ap (λ (t : Totals). tally-of (getD (c .before .before .before .before .before .before .before .args .flows .«in_flight») (c .before .before .before .i .given .0 .0) free .owner) t .cancelled) same))
+    let flows = c .before .before .before .before .before .before .before .args .flows in
+    let i = c .before .before .before .i .given .0 .0 in
+    let found = somewhere (c .before .before .before .before .before .before .before .args .id) (flows .«in_flight») i (sym (c .before .before .before .before .before .find .ensures) ∙ c .before .before .before .i .given .1) in
+    let kept-totals = ap (λ (g : Flows). tally-of (getD (flows .«in_flight») i free .owner) (g .totals) .cancelled) (c .drained-to-clock .ensures .0) in
+    rw (getD-any (flows .«in_flight») i _ free (found .inside))
+    (omega (arith, kept-totals, drained-tally (c .before .before .before .before .before .before .before .pre) (getD (flows .«in_flight») i free .owner), room-to-cancel (c .before .before .before .before .before .before .before .args .id) i (c .before .before .before .before .before .before .before .pre) found))
 
 free-requires : tie.Need-free-requires
 free-requires c κs = search needs
 
 mul-free : tie.Need-mul-free
-mul-free c = omega (arith, c .before .before .before .before .before .before .before .before .before .pre .slot-places, somewhere (c .before .before .before .before .before .before .before .before .before .args .id) (c .before .before .before .before .before .before .before .before .before .args .flows .«in_flight») _ (sym (c .before .before .before .before .before .before .before .find .ensures) ∙ c .before .before .before .before .before .i .given .1) .inside)
+mul-free c = omega (arith, found-below (c .before .before .before .before .before .before .before .before .before .pre) (c .before .before .before .before .before .before .before .before .before .args .id) (sym (c .before .before .before .before .before .before .before .find .ensures) ∙ c .before .before .before .before .before .i .given .1))
 
 element-set-from-free : tie.Need-element-set-from-free
-element-set-from-free c = omega (arith, c .before .before .before .before .before .before .before .before .before .pre .slot-places, somewhere (c .before .before .before .before .before .before .before .before .before .args .id) (c .before .before .before .before .before .before .before .before .before .args .flows .«in_flight») _ (sym (c .before .before .before .before .before .before .before .find .ensures) ∙ c .before .before .before .before .before .i .given .1) .inside)
+element-set-from-free c = omega (arith, found-below (c .before .before .before .before .before .before .before .before .before .pre) (c .before .before .before .before .before .before .before .before .before .args .id) (sym (c .before .before .before .before .before .before .before .find .ensures) ∙ c .before .before .before .before .before .i .given .1))
 
 made-stale-requires : tie.Need-made-stale-requires
 made-stale-requires c κs = search needs
@@ -60,10 +60,12 @@ made-stale-requires c κs = search needs
 returns-2 : tie.Need-returns-2
 unfolding cancel contains with-in-flight
 returns-2 c =
-    let found = somewhere (c .before .before .before .before .before .before .before .before .before .before .args .id) (c .before .before .before .before .before .before .before .before .before .before .args .flows .«in_flight») _ (sym (c .before .before .before .before .before .before .before .before .find .ensures) ∙ c .before .before .before .before .before .before .i .given .1) in
-    kept (cancel-keeps (c .before .before .before .before .before .before .before .before .before .before .args .id) (c .before .before .before .before .before .before .before .before .before .before .args .flows) (c .before .before .before .before .before .before .before .before .before .before .pre))
-    (rw (found .some-has, cancelled-is (c .before .before .before .before .before .before .before .before .before .before .args .id) (c .before .before .before .before .before .before .i .given .0 .0) (c .before .before .before .before .before .before .before .before .before .before .pre) found, ← c .before .before .before .drained-to-clock .ensures .0)
-    (cc (rw (getD-any (c .before .before .before .before .before .before .before .before .before .before .args .flows .«in_flight») (c .before .before .before .before .before .before .i .given .0 .0) _ free (found .inside)) at (c .before .before .cancelled .ensures), c .before .free .ensures, c .made-stale .ensures)))
+    let flows = c .before .before .before .before .before .before .before .before .before .before .args .flows in
+    let i = c .before .before .before .before .before .before .i .given .0 .0 in
+    let found = somewhere (c .before .before .before .before .before .before .before .before .before .before .args .id) (flows .«in_flight») i (sym (c .before .before .before .before .before .before .before .before .find .ensures) ∙ c .before .before .before .before .before .before .i .given .1) in
+    let counted = rw (getD-any (flows .«in_flight») i _ free (found .inside)) at (c .before .before .cancelled .ensures) in
+    kept (cancel-keeps (c .before .before .before .before .before .before .before .before .before .before .args .id) flows (c .before .before .before .before .before .before .before .before .before .before .pre))
+    (rw (found .some-has, cancelled-is (c .before .before .before .before .before .before .before .before .before .before .args .id) i (c .before .before .before .before .before .before .before .before .before .before .pre) found, c .made-stale .ensures, counted, c .before .free .ensures, ← c .before .before .before .drained-to-clock .ensures .0))
 
 pub cancel-spec : {M : Type 1} → statement M
 cancel-spec =

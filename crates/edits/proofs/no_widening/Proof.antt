@@ -1,7 +1,7 @@
 -- `no_widening` reads a capacity only of an edge that is there. Assumes nothing.
 use borrow.Author.Needs.{needs}
 use native.Mathlib.Omega.{arith}
-use mathlib.Core.Path.{_≡_, sym, _∙_}
+use mathlib.Core.Path.{sym, _∙_}
 use borrow.Author.Tests.{le-leb, lt-leb}
 use Rattle.rules.specs.Refusals.{no-such-edge}
 use Rattle.rules.specs.Calls.{wider}
@@ -34,8 +34,8 @@ not-an-amount-requires c κs = search needs
 returns-3 : tie.Need-returns-3
 unfolding no-widening no-such-edge wider
 returns-3 c =
-    rw (sym (c .before .before .before .before .before .not-a-number .ensures) ∙ c .before .before .before .before .if1 .left, lt-leb (c .before .before .before .before .before .before .args .flows .«num_edges») (c .before .before .before .before .before .before .args .e) (omega arith))
-    (rw (getD-any (c .before .before .before .before .before .before .args .flows .edges) (c .before .before .before .before .before .before .args .e) _ no-edge (omega arith)) at (c .not-an-amount .ensures))
+    let told = rw (getD-any (c .before .before .before .before .before .before .args .flows .edges) (c .before .before .before .before .before .before .args .e) _ no-edge (omega arith)) at (c .not-an-amount .ensures) in
+    rw (sym (c .before .before .before .before .before .not-a-number .ensures) ∙ c .before .before .before .before .if1 .left, lt-leb (c .before .before .before .before .before .before .args .flows .«num_edges») (c .before .before .before .before .before .before .args .e) (omega arith), told)
 
 pub no-widening-spec : {M : Type 1} → statement M
 no-widening-spec =

@@ -3,11 +3,10 @@ use borrow.Author.Needs.{needs}
 use native.Mathlib.Omega.{arith}
 use borrow.Author.Tests.{le-leb, lt-leb}
 use denote.Floats.{passes}
-use mathlib.Core.Path.{_≡_, sym, _∙_}
-use Rattle.rules.specs.Records.{no-edge, with-edges}
+use mathlib.Core.Path.{sym, _∙_}
+use lib.Ieee.{nan}
+use Rattle.rules.specs.Records.{with-edges}
 use Rattle.rules.specs.Refusals.{refusing, no-such-edge}
-use Rattle.rules.specs.Calls.{drained-to-clock}
-use Rattle.rules.proofs.Steps.{getD-any}
 use Rattle.keeps.proofs.Calls.{widen-keeps}
 use Rattle.edits.proofs.Kept.{kept}
 use Rattle.edits.proofs.Changed.{edge-widened-is, widen-is}
@@ -52,8 +51,7 @@ returns-3 : tie.Need-returns-3
 unfolding refusing no-such-edge with-edges
 returns-3 c =
     kept (widen-keeps (c .before .before .before .before .before .before .before .before .args .edge) (c .before .before .before .before .before .before .before .before .args .bytes-per-sec) (c .before .before .before .before .before .before .before .before .args .flows) (passes _ (c .before .before .before .before .before .before .before .before .good .1 .1 .0 .1)) (c .before .before .before .before .before .before .before .before .pre))
-    (rw (widen-is, sym (c .before .before .before .before .before .before .before .no-widening .ensures) ∙ c .before .before .before .before .before .before .if1 .left, lt-leb (c .before .before .before .before .before .before .before .before .args .flows .«num_edges») (c .before .before .before .before .before .before .before .before .args .edge) (omega arith), edge-widened-is, ← c .before .before .drained-to-clock .ensures .0, ← c .before .before .before .read-zero .ensures)
-    (cc (rw (getD-any (c .before .before .drained-to-clock .result .edges) (c .before .before .before .before .before .before .before .before .args .edge) _ no-edge (omega (arith, c .before .before .before .before .if2 .left, c .before .before .before .before .before .before .before .before .pre .few-edges, c .before .before .drained-to-clock .ensures .1 .edge-places))) at (c .made-stale .ensures))))
+    (rw (widen-is, sym (c .before .before .before .before .before .before .before .no-widening .ensures) ∙ c .before .before .before .before .before .before .if1 .left, lt-leb (c .before .before .before .before .before .before .before .before .args .flows .«num_edges») (c .before .before .before .before .before .before .before .before .args .edge) (omega arith), edge-widened-is (c .before .before .before .before .before .before .before .before .args .edge) _ (c .before .before .before .before .before .before .before .before .args .flows) (record { capacity = nan; «bytes_moved» = nan; «busy_transfer_seconds» = nan }), c .made-stale .ensures, ← c .before .before .drained-to-clock .ensures .0, ← c .before .before .before .read-zero .ensures))
 
 pub widen-spec : {M : Type 1} → statement M
 widen-spec =

@@ -6,6 +6,7 @@ use borrow.Author.Tests.{leb-false, eqb-false}
 use mathlib.Core.Path.{sym, _∙_}
 use Rattle.rules.specs.Records.{num-in-flight, tally-of}
 use Rattle.rules.specs.Refusals.{refusing, is-full}
+use Rattle.submission.specs.Started.{start}
 use Rattle.submission.proofs.start.Statement.{statement}
 use Rattle.submission.proofs.start.Tie as tie
 
@@ -16,7 +17,7 @@ refused-requires : tie.Need-refused-requires
 refused-requires c κs = search needs
 
 returns : tie.Need-returns
-unfolding refusing
+unfolding start refusing
 returns c = rw (c .refused .ensures, ← c .before .before .contains .ensures, c .before .if1 .taken)
 
 is-full-requires : tie.Need-is-full-requires
@@ -26,7 +27,7 @@ refused-requires-2 : tie.Need-refused-requires-2
 refused-requires-2 c κs = search needs
 
 returns-2 : tie.Need-returns-2
-unfolding refusing
+unfolding start refusing
 returns-2 c = rw (c .refused2 .ensures, ← c .before .before .before .before .contains .ensures, c .before .before .before .if1 .left, ← c .before .before .is-full .ensures, c .before .if2 .taken)
 
 has-last-number-requires : tie.Need-has-last-number-requires
@@ -36,22 +37,22 @@ refused-requires-3 : tie.Need-refused-requires-3
 refused-requires-3 c κs = search needs
 
 returns-3 : tie.Need-returns-3
-unfolding refusing
+unfolding start refusing
 returns-3 c = rw (c .refused3 .ensures, ← c .before .before .before .before .before .before .contains .ensures, c .before .before .before .before .before .if1 .left, ← c .before .before .before .before .is-full .ensures, c .before .before .before .if2 .left, ← c .before .before .has-last-number .ensures, c .before .if3 .taken)
 
 started-requires : tie.Need-started-requires
 unfolding is-full
 started-requires c κs =
-    let start = c .before .before .before .before .before .before in
-    let inv = start .pre .0 in
-    let f = start .args .flows in
-    let y = tally-of (start .args .transfer .owner) (f .totals) in
+    let entry = c .before .before .before .before .before .before in
+    let inv = entry .pre .0 in
+    let f = entry .args .flows in
+    let y = tally-of (entry .args .transfer .owner) (f .totals) in
     let room = leb-false 256 (num-in-flight f + f .«num_completed») (sym (c .before .before .before .is-full .ensures) ∙ c .before .before .if2 .left) in
     let more = eqb-false (y .submitted) (2 ^ 64 - 1) (sym (c .before .has-last-number .ensures) ∙ c .if3 .left) in
-    (inv, (start .pre .1 .0, (start .pre .1 .1, (omega (arith, room), omega (arith, more, inv .balanced (start .args .transfer .owner) .fits)))))
+    (inv, (entry .pre .1 .0, (entry .pre .1 .1, (omega (arith, room), omega (arith, more, inv .balanced (entry .args .transfer .owner) .fits)))))
 
 returns-4 : tie.Need-returns-4
-unfolding refusing
+unfolding start refusing
 returns-4 c = rw (c .started .ensures, ← c .before .before .before .before .before .before .contains .ensures, c .before .before .before .before .before .if1 .left, ← c .before .before .before .before .is-full .ensures, c .before .before .before .if2 .left, ← c .before .before .has-last-number .ensures, c .before .if3 .left)
 
 pub start-spec : {M : Type 1} → statement M

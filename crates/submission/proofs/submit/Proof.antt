@@ -9,7 +9,7 @@ submit-capped-requires c κs = search needs
 
 returns : tie.Need-returns
 unfolding submit
-returns c = c .submit-capped .ensures
+returns c = (rw (c .submit-capped .ensures .0), c .submit-capped .ensures .1)
 
 pub submit-spec : {M : Type 1} → statement M
 submit-spec = tie.close (tie.spec submit-capped-requires returns)

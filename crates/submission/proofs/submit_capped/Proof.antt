@@ -9,13 +9,14 @@ use lib.Ieee.{binary64, fits}
 use lib.ListN.{length}
 use mathlib.Core.Bool.{_||_}
 use mathlib.Core.Path.{_≡_, sym, _∙_}
+use Rattle.doubles.specs.Doubles.{read-zero}
 use Rattle.keeps.proofs.Arguments.{time-clock, time-no-earlier}
 use Rattle.keeps.proofs.Calls.{submit-capped-keeps}
 use Rattle.keeps.proofs.Refusing.{neither}
 use Rattle.rules.specs.Calls.{submitted-transfer, submit-capped, submitted}
 use Rattle.rules.specs.Refusals.{refusing, not-a-number, not-a-cap, not-a-time, no-such-edge, too-long}
 use Rattle.submission.proofs.Typed.{cap-typed}
-use Rattle.submission.specs.Started.{inserted, started}
+use Rattle.submission.specs.Started.{inserted, started, start}
 use Rattle.submission.proofs.submit_capped.Statement.{statement}
 use Rattle.submission.proofs.submit_capped.Tie as tie
 
@@ -77,7 +78,7 @@ refused-requires-4 c κs = search needs
 returns-4 : tie.Need-returns-4
 unfolding submit-capped refusing no-such-edge too-long
 returns-4 c =
-    let start = c .before .before .before .before .before .before .before .before .before in (
+    let entry = c .before .before .before .before .before .before .before .before .before in (
       rw (
         c .refused4 .ensures,
         ← c .before .before .before .before .before .before .before .not-numbers .ensures,
@@ -85,9 +86,9 @@ returns-4 c =
         c .before .before .before .before .if2 .left,
         ← c .before .before .before .names-no-edge .ensures,
         c .before .before .if3 .left,
-        lt-ltb 8 (length (start .args .path .now)) (omega (arith, c .before .if4 .taken)),
+        lt-ltb 8 (length (entry .args .path .now)) (omega (arith, c .before .if4 .taken)),
       ),
-      rw (c .refused4 .ensures) (start .pre),
+      rw (c .refused4 .ensures) (entry .pre),
     )
 
 refused-requires-5 : tie.Need-refused-requires-5
@@ -96,7 +97,7 @@ refused-requires-5 c κs = search needs
 returns-5 : tie.Need-returns-5
 unfolding submit-capped refusing no-such-edge too-long
 returns-5 c =
-    let start = c .before .before .before .before .before .before .before .before .before .before in (
+    let entry = c .before .before .before .before .before .before .before .before .before .before in (
       rw (
         c .refused5 .ensures,
         ← c .before .before .before .before .before .before .before .before .not-numbers .ensures,
@@ -104,10 +105,10 @@ returns-5 c =
         c .before .before .before .before .before .if2 .left,
         ← c .before .before .before .before .names-no-edge .ensures,
         c .before .before .before .if3 .left,
-        le-ltb 8 (length (start .args .path .now)) (omega (arith, c .before .before .if4 .left)),
-        lt-ltb (2 ^ 53) (start .args .bytes) (omega (arith, c .before .if5 .taken)),
+        le-ltb 8 (length (entry .args .path .now)) (omega (arith, c .before .before .if4 .left)),
+        lt-ltb (2 ^ 53) (entry .args .bytes) (omega (arith, c .before .if5 .taken)),
       ),
-      rw (c .refused5 .ensures) (start .pre),
+      rw (c .refused5 .ensures) (entry .pre),
     )
 
 submitted-transfer-requires : tie.Need-submitted-transfer-requires
@@ -116,18 +117,19 @@ submitted-transfer-requires c κs = search needs
 start-requires : tie.Need-start-requires
 unfolding submitted-transfer
 start-requires c κs =
-    let start = c .before .before .before .before .before .before .before .before .before .before in
-    let until = start .args .until in
+    let entry = c .before .before .before .before .before .before .before .before .before .before in
+    let until = entry .args .until in
     let typed : T (fits binary64 until) = search needs in
-    let time = neither (not-a-number (start .args .latency) || not-a-cap (start .args .rate-cap)) (not-a-time until) (sym (c .before .before .before .before .before .before .before .before .not-numbers .ensures) ∙ c .before .before .before .before .before .before .before .if1 .left) .1 in
-    rw (c .submitted-transfer .ensures) (start .pre, (time-clock until typed time, time-no-earlier until typed time (start .pre .clock .plain) (c .before .before .before .before .before .if2 .left)))
+    let time = neither (not-a-number (entry .args .latency) || not-a-cap (entry .args .rate-cap)) (not-a-time until) (sym (c .before .before .before .before .before .before .before .before .not-numbers .ensures) ∙ c .before .before .before .before .before .before .before .if1 .left) .1 in
+    let own-time : c .submitted-transfer .result .«last_update» ≡ read-zero until = rw (c .submitted-transfer .ensures) in
+    rw own-time (entry .pre, (time-clock until typed time, time-no-earlier until typed time (entry .pre .clock .plain) (c .before .before .before .before .before .if2 .left)))
 
 returns-6 : tie.Need-returns-6
-unfolding submit-capped refusing no-such-edge too-long submitted started inserted submitted-transfer
+unfolding submit-capped refusing no-such-edge too-long submitted start started inserted submitted-transfer
 returns-6 c =
-    let start = c .before .before .before .before .before .before .before .before .before .before .before in
-    let a = start .args in
-    let good = start .good .1 .1 .1 .1 .1 in
+    let entry = c .before .before .before .before .before .before .before .before .before .before .before in
+    let a = entry .args in
+    let good = entry .good .1 .1 .1 .1 .1 in
     let is : c .start .result ≡ submit-capped (a .id) (a .owner) (a .path .now) (a .bytes) (a .latency) (a .rate-cap) (a .until) (a .flows) =
     rw (
       c .start .ensures,
@@ -137,10 +139,10 @@ returns-6 c =
       c .before .before .before .before .before .before .if2 .left,
       ← c .before .before .before .before .before .names-no-edge .ensures,
       c .before .before .before .before .if3 .left,
-      le-ltb 8 (length (start .args .path .now)) (omega (arith, c .before .before .before .if4 .left)),
-      le-ltb (2 ^ 53) (start .args .bytes) (omega (arith, c .before .before .if5 .left)),
+      le-ltb 8 (length (entry .args .path .now)) (omega (arith, c .before .before .before .if4 .left)),
+      le-ltb (2 ^ 53) (entry .args .bytes) (omega (arith, c .before .before .if5 .left)),
     ) in
-    (is, rw is (submit-capped-keeps (a .id) (a .owner) (a .path .now) (a .bytes) (a .latency) (a .rate-cap) (a .until) (a .flows) (passes _ (good .0 .1)) (cap-typed _ _ (good .1 .0)) (passes _ (good .1 .1 .0 .1)) (start .pre)))
+    (is, rw is (submit-capped-keeps (a .id) (a .owner) (a .path .now) (a .bytes) (a .latency) (a .rate-cap) (a .until) (a .flows) (passes _ (good .0 .1)) (cap-typed _ _ (good .1 .0)) (passes _ (good .1 .1 .0 .1)) (entry .pre)))
 
 pub submit-capped-spec : {M : Type 1} → statement M
 submit-capped-spec =

@@ -1,4 +1,4 @@
--- `count` raises the path's counters where the transfer counts, and nothing else. Assumes nothing.
+-- `count` raises the path's counters where the transfer is one of those counted, and nothing else. Assumes nothing.
 use mathlib.Core.Path.{sym}
 use native.Mathlib.Nat.{le-of-eq}
 use Rattle.rules.specs.Records.{own-path}
@@ -8,8 +8,8 @@ use borrow.Author.Needs.{needs}
 use Rattle.transfers.proofs.count.Statement.{statement}
 use Rattle.transfers.proofs.count.Tie as tie
 
-counts-in-loads-requires : tie.Need-counts-in-loads-requires
-counts-in-loads-requires c κs = search needs
+counts-requires : tie.Need-counts-requires
+counts-requires c κs = search needs
 
 array-share-prefix-hops : tie.Need-array-share-prefix-hops
 array-share-prefix-hops c = search needs
@@ -26,17 +26,17 @@ same-length c = search needs
 
 returns : tie.Need-returns
 unfolding counted own-path
-returns c = rw (← c .before .before .before .before .before .before .before .before .counts-in-loads .ensures, c .before .before .before .before .before .before .before .if1 .taken) (c .before .before .raise .ensures)
+returns c = rw (← c .before .before .before .before .before .before .before .before .counts .ensures, c .before .before .before .before .before .before .before .if1 .taken) (c .before .before .raise .ensures)
 
 returns-2 : tie.Need-returns-2
 unfolding counted
-returns-2 c = rw (← c .before .counts-in-loads .ensures, c .if1 .left)
+returns-2 c = rw (← c .before .counts .ensures, c .if1 .left)
 
 pub count-spec : {M : Type 1} → statement M
 count-spec =
     tie.close
     (tie.spec
-    counts-in-loads-requires
+    counts-requires
     array-share-prefix-hops
     slice-aggregate-raise
     raise-requires

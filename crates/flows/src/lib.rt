@@ -1,0 +1,50 @@
+// The simulator for its users: every type and every call in one place. What each does is in crates/rules/specs.
+
+// ---- types
+pub use questions::Bytes;
+pub use questions::Counts;
+pub use rules::Answer;
+pub use rules::Cap;
+pub use rules::Completion;
+pub use rules::Delay;
+pub use rules::Edge;
+pub use rules::EdgeRead;
+pub use rules::Flows;
+pub use rules::NextDone;
+pub use rules::Outcome;
+pub use rules::Owner;
+pub use rules::Tally;
+pub use rules::Tolerance;
+pub use rules::Totals;
+pub use rules::Transfer;
+
+// ---- calls
+pub use advance::advance;
+pub use edits::add_edge;
+pub use edits::cancel;
+pub use edits::widen;
+pub use lists::take_completed;
+pub use submission::submit;
+pub use submission::submit_capped;
+
+// ---- questions
+pub use estimates::estimate_new;
+pub use estimates::estimate_new_capped;
+pub use estimates::estimate_remaining;
+pub use lists::owners_with_completions;
+pub use questions::bytes_submitted;
+pub use questions::cancelled_counts;
+pub use questions::completed_counts;
+pub use questions::contains;
+pub use questions::edge;
+pub use questions::mean_in_flight;
+pub use questions::next_completion_delay;
+pub use questions::now;
+pub use questions::num_edges;
+pub use questions::num_in_flight;
+pub use questions::num_uncollected;
+pub use questions::peak_in_flight;
+pub use questions::rate;
+pub use questions::rounds;
+pub use questions::submitted_counts;
+pub use questions::totals;
