@@ -65,7 +65,7 @@ unfoldable pub estimate : Flows → List ℕ → Float → Float → Cap → Flo
 estimate f [] bytes latency cap = time-alone latency bytes cap
 estimate f (e ∷ path) bytes latency cap = time-at-share latency bytes (capped cap (path-share f (e ∷ path)))
 
--- How long a new transfer would take at the share it would get now; bytes left are as at the last drain.
+-- The time that one more transfer would need as things stand; bytes left are as at the last drain.
 unfoldable pub estimate-new-capped : List ℕ → Float → Float → Cap → Flows → Answer
 estimate-new-capped path bytes latency cap f =
     refusing
