@@ -1,0 +1,57 @@
+// A double in decimal, for people: what is compared are its bits.
+ghost use mathlib.Core.Path.{_≡_};
+ghost use Prim.Native.Nat.{_+_, _≤_};
+ghost use Rattle.script.specs.Page.{is-readable};
+use crate::put_number;
+use crate::put_text;
+
+// Whether a double lies between -2^53 and 2^53, so that its whole part has few digits and is exact. A NaN does not.
+pub fn readable(x: f64) -> bool
+    ensures { λ r. ⌜ r ≡ is-readable x ⌝ }
+{
+    if x < 9007199254740992.0 {
+        -9007199254740992.0 < x
+    } else {
+        false
+    }
+}
+
+// A readable double with six places, the last one rounded to the nearest.
+pub fn put_fixed(page: &mut [u8; 65536], at: usize, x: f64) -> usize
+    requires { ⌜ at + 48 ≤ 65536 ⌝ }
+    ensures { λ r. ⌜ (at ≤ r) × (r ≤ at + 48) ⌝ }
+{
+    if x < 0.0 {
+        let next = put_text(page, at, b"-");
+        return put_size(page, next, -x);
+    }
+    put_size(page, at, x)
+}
+
+// The millionths are put behind a million, whose own digit is left out, so that none of their zeros is.
+fn put_size(page: &mut [u8; 65536], at: usize, size: f64) -> usize
+    requires { ⌜ at + 47 ≤ 65536 ⌝ }
+    ensures { λ r. ⌜ (at ≤ r) × (r ≤ at + 47) ⌝ }
+{
+    let whole = down(size);
+    let millionths = down((size - doubles::whole(whole)) * 1000000.0 + 0.5);
+    let mut text = [0u8; 20];
+    let k = io::decimal(1000000 + millionths % 1000000, &mut text);
+    let point = put_number(
+        page,
+        at,
+        std::num::wrapping_add_u64(whole, millionths / 1000000),
+    );
+    let after = put_text(page, point, b".");
+    put_text(page, after, &text[1..k])
+}
+
+// The whole number below, and 0 where there is none.
+fn down(x: f64) -> u64 {
+    if x > -1.0 {
+        if x < 18446744073709551616.0 {
+            return std::num::truncating_f64_to_u64(x);
+        }
+    }
+    0
+}
