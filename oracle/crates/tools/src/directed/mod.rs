@@ -1,6 +1,7 @@
 //! Scripts made for places that random calls do not find. Each is run while it is made, and what it is made for is asserted.
 
 mod cases;
+mod fillings;
 mod limits;
 mod orders;
 mod refusals;
@@ -20,6 +21,7 @@ const MOST_BYTES: u64 = 1 << 53;
 pub fn scripts() -> Vec<(&'static str, Vec<String>)> {
     vec![
         ("cases", cases::cases()),
+        ("fillings", fillings::fillings()),
         ("bytes-left", tolerance::bytes_left()),
         ("drain-time", tolerance::drain_time()),
         ("latency-left", tolerance::latency_left()),
