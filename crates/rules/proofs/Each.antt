@@ -1,7 +1,7 @@
 -- What holds at every place of a table: of a table of one value, of a table put through a function, after a store. Assumes nothing.
 use Prim.Native.Nat.{ℕ, zero, suc}
 use mathlib.Core.List.{List, [], _∷_, map}
-use lib.ListN.{getD, set, replicate}
+use lib.ListN.{set, replicate}
 use Rattle.rules.specs.Lists.{Each}
 
 module _ {A : Type 0} (P : A → Type 0) (blank : A) where

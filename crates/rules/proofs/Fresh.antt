@@ -1,17 +1,16 @@
 -- The fresh simulator keeps the invariant. Assumes nothing.
 use mathlib.Core.Path.{_≡_, refl}
 use mathlib.Core.Bool.{true, false}
-use Prim.Native.Nat.{ℕ, _≤_, _<_}
+use Prim.Native.Nat.{ℕ}
 use native.Mathlib.Omega.{arith}
 use lib.ListN.{getD, replicate}
-use lib.Ieee.{Float}
-use Rattle.doubles.specs.Doubles.{nought, Plain, Nonneg}
+use Rattle.doubles.specs.Doubles.{nought, Plain}
 use Rattle.rules.specs.declared.Owner.{Owner}
 use Rattle.rules.specs.declared.Owner.the-variants.{Worker, Handoff, Write}
 use Rattle.rules.specs.declared.Edge.{Edge}
 use Rattle.rules.specs.declared.Transfer.{Transfer}
 use Rattle.rules.specs.declared.Completion.{Completion}
-use Rattle.rules.specs.Records.{fresh, free, no-edge, no-completion, no-tally, tally-of}
+use Rattle.rules.specs.Records.{fresh, free, no-edge, no-completion, tally-of}
 use Rattle.rules.specs.Invariant.{Invariant, Summed, SoundEdge, SoundSlot, Balanced, nobody}
 use Rattle.rules.proofs.Everything.{everything}
 use Rattle.rules.proofs.Each.{each-same}

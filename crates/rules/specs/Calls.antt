@@ -1,6 +1,6 @@
 -- The calls that change a simulator: edges, submission, advance, cancel. (01, Clock) Definitions only.
 use Prim.Native.Nat.{ℕ, suc, _+_, _-_, _*_, _^_, max}
-use mathlib.Core.Bool.{Bool, true, false, not, _&&_, _||_, cond}
+use mathlib.Core.Bool.{Bool, true, not, _&&_, _||_, cond}
 use mathlib.Core.List.{List, [], _∷_, map, foldl}
 use lib.Dec.{ltb, leb, eqb}
 use lib.ListN.{length, set, getD}
@@ -31,6 +31,7 @@ use Rattle.rules.specs.Queue.{queued, triples}
 unfoldable pub drained-to-clock : Flows → Flows
 drained-to-clock f = drain-to (f .clock .now) f
 
+-- The simulator drained to its clock, with one more edge.
 unfoldable pub edge-added : Float → Flows → Flows
 edge-added capacity f =
     let d = drained-to-clock f in
@@ -49,6 +50,7 @@ add-edge capacity f =
 unfoldable pub wider : Float → Edge → Float
 wider amount e = e .capacity ⊕ amount
 
+-- The simulator drained to its clock, with an edge of another capacity.
 unfoldable pub edge-widened : ℕ → Float → Flows → Flows
 edge-widened e amount f =
     let d = drained-to-clock f in
@@ -84,6 +86,7 @@ unfoldable pub placed : Transfer → List Transfer → List Transfer
 placed t [] = []
 placed t (x ∷ slots) = let past = x ∷ placed t slots in cond (x .taken) past (t ∷ slots)
 
+-- One more submitted, with its bytes. (01, Clock)
 unfoldable pub count-submitted : ℕ → Tally → Tally
 count-submitted bytes y = record { submitted = y .submitted + 1; completed = y .completed; cancelled = y .cancelled; «bytes_submitted» = y .«bytes_submitted» ⊕ whole bytes }
 
@@ -140,6 +143,7 @@ by-id (d ∷ list) c = let later = d ∷ by-id list c in cond (ltb (c .id) (d .i
 unfoldable pub done-list : Flows → List Completion
 done-list f = foldl by-id [] (map (λ t. record { owner = t .owner; id = t .id }) (those (done-now f) (f .«in_flight»)))
 
+-- One more completed.
 unfoldable pub count-completed : Tally → Tally
 count-completed y = record { submitted = y .submitted; completed = y .completed + 1; cancelled = y .cancelled; «bytes_submitted» = y .«bytes_submitted» }
 
@@ -175,6 +179,7 @@ advance T f buffer =
 
 -- ---- cancel
 
+-- One more cancelled.
 unfoldable pub count-cancelled : Tally → Tally
 count-cancelled y = record { submitted = y .submitted; completed = y .completed; cancelled = y .cancelled + 1; «bytes_submitted» = y .«bytes_submitted» }
 

@@ -12,7 +12,7 @@ use Rattle.rules.specs.declared.Cap.{Cap}
 use Rattle.rules.specs.declared.Cap.the-variants.{AtMost, Uncapped}
 use Rattle.rules.specs.declared.Delay.{Delay}
 use Rattle.rules.specs.declared.Delay.the-variants.{After, Never}
-use Rattle.rules.specs.declared.Answer.the-variants.{Done, Added, Listed, Unknown, Value, Wait, Refused}
+use Rattle.rules.specs.declared.Answer.the-variants.{Done, Added, Listed, Value, Wait, Refused}
 use Rattle.rules.specs.declared.EdgeRead.the-variants.{Found}
 use Rattle.rules.specs.declared.Flows.{Flows}
 use Rattle.rules.specs.Lists.{all}
@@ -29,6 +29,7 @@ pub record Step : Type 0 where
   pub call : Call
   pub expected : Said
 
+-- A step of a table.
 abbrev pub _gives_ : Call → Said → Step
 c gives s = record { call = c; expected = s }
 
@@ -50,32 +51,41 @@ holds steps = gives-all fresh steps
 
 -- ---- how the tables are written: whole numbers, worker 0, time 0, a buffer of six places
 
+-- The edge of that number is added.
 abbrev new-edge : ℕ → ℕ → Step
 new-edge e capacity = add-edge (whole capacity) gives said (Added e)
 
+-- A transfer is submitted and taken.
 abbrev sent : ℕ → List ℕ → ℕ → ℕ → Cap → Step
 sent id path bytes latency cap = submit id (Worker 0) path bytes (whole latency) cap nought gives said Done
 
+-- A transfer has that rate.
 abbrev runs-at : ℕ → ℕ → Step
 runs-at id r = rate id gives said (Value (whole r))
 
+-- The last filling took so many rounds.
 abbrev took-rounds : ℕ → Step
 took-rounds n = rounds gives number n
 
+-- The next completion is that far away.
 abbrev delay-is : Delay → Step
 delay-is d = next-completion-delay gives said (Wait d)
 
+-- An advance lists nobody and leaves the buffer alone.
 abbrev lists-nobody : ℕ → Step
 lists-nobody T = advance 6 (whole T) gives listed (Listed 0) (lent-buffer 6)
 
+-- An advance lists one transfer of worker 0.
 abbrev lists-one : ℕ → ℕ → Step
 lists-one T id = advance 6 (whole T) gives listed (Listed 1) (0 ∷ 0 ∷ id ∷ lent-buffer 3)
 
+-- An edge has that capacity, so many bytes moved and that load integral.
 abbrev edge-is : ℕ → ℕ → ℕ → ℕ → Step
 edge-is e capacity moved busy = edge e gives edge-read (Found (record { capacity = whole capacity; «bytes_moved» = whole moved; «busy_transfer_seconds» = whole busy }))
 
 -- ---- cases 1 to 12
 
+-- What each of the cases calls, and what it must be given. Case 11 stands below.
 abbrev pub cases : List (List Step)
 cases =
     -- 1: two share an edge
@@ -161,6 +171,7 @@ eps-cases =
     ∷ (whole (2 ^ 20), nearest 1 (2 ^ 30))
     ∷ []
 
+-- Whether eps at a clock time is the double that is expected.
 unfoldable pub eps-holds : Float × Float → Bool
 eps-holds c = eqb (bits-of (Tolerance.eps default-tolerance (c .0))) (bits-of (c .1))
 
@@ -197,6 +208,7 @@ collection =
     ∷ take-completed 3 (Worker 3) gives listed (Listed 2) (2 ∷ 9 ∷ lent-buffer 1)
     ∷ []
 
+-- n more edges, numbered from e.
 abbrev numbered : ℕ → ℕ → List Step
 numbered zero e = []
 numbered (suc n) e = new-edge e 1 ∷ numbered n (suc e)

@@ -1,7 +1,7 @@
 -- Bringing rates up to date, and draining to a time. (01, Clock) Definitions only.
 use Prim.Native.Nat.{ℕ, zero, suc}
-use mathlib.Core.Bool.{Bool, true, false, _&&_, cond}
-use mathlib.Core.List.{List, [], _∷_, map, foldl}
+use mathlib.Core.Bool.{Bool, false, _&&_, cond}
+use mathlib.Core.List.{List, map, foldl}
 use lib.Ieee.{Float}
 use Rattle.doubles.specs.Doubles.{_⊕_, _⊖_, _⊗_, _≺_, nought, smaller, whole}
 use Rattle.rules.specs.declared.Delay.{Delay}
@@ -84,6 +84,7 @@ drained T t =
 
 -- ---- the edges
 
+-- Some bytes more have crossed an edge.
 unfoldable pub gain-moved : Float → Edge → Edge
 gain-moved moved e = record { capacity = e .capacity; «bytes_moved» = e .«bytes_moved» ⊕ moved; «busy_transfer_seconds» = e .«busy_transfer_seconds» }
 

@@ -15,7 +15,7 @@ use Rattle.rules.specs.declared.Transfer.{Transfer}
 use Rattle.rules.specs.declared.Flows.{Flows}
 use Rattle.rules.specs.Lists.{count, sum, crossings}
 use Rattle.rules.specs.Records.{no-edge, free, path-of, takes-part, crossings-by}
-use Rattle.rules.specs.Filling.{Filling, recompute-rates}
+use Rattle.rules.specs.Filling.{recompute-rates}
 
 -- The exact capacity of edge e.
 unfoldable pub C : List Edge → ℕ → ℕ

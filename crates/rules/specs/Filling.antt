@@ -38,6 +38,7 @@ tightest candidates = foldl tighter Nobody candidates
 
 -- ---- who takes part
 
+-- A transfer at another rate.
 unfoldable pub with-rate : Float → Transfer → Transfer
 with-rate rate t = record { taken = t .taken; id = t .id; owner = t .owner; path = t .path; «latency_remaining» = t .«latency_remaining»; «bytes_remaining» = t .«bytes_remaining»; «rate_cap» = t .«rate_cap»; rate = rate; «last_update» = t .«last_update» }
 

@@ -45,6 +45,7 @@ unfoldable pub typed-cap : Cap → Bool
 typed-cap (AtMost c) = fits binary64 c
 typed-cap Uncapped = true
 
+-- Whether a call's doubles are doubles.
 unfoldable pub typed : Call → Bool
 typed (advance size T) = fits binary64 T
 typed (submit id owner path bytes latency cap T) = fits binary64 latency && (typed-cap cap && fits binary64 T)
@@ -104,12 +105,15 @@ pub record Left : Type 0 where
   pub flows : Flows
   pub said : Said
 
+-- What a call with an outcome leaves.
 abbrev changing : Outcome → Left
 changing o = record { flows = o .flows; said = said (o .answer) }
 
+-- What a call with a lent buffer leaves.
 abbrev listing : Lent → Left
 listing l = record { flows = l .outcome .flows; said = listed (l .outcome .answer) (l .buffer) }
 
+-- What a question that only reads leaves.
 abbrev asking : Flows → Said → Left
 asking f s = record { flows = f; said = s }
 

@@ -17,7 +17,6 @@ use Rattle.rules.specs.declared.Edge.{Edge}
 use Rattle.rules.specs.declared.Route.{Route}
 use Rattle.rules.specs.declared.Transfer.{Transfer}
 use Rattle.rules.specs.declared.Tally.{Tally}
-use Rattle.rules.specs.declared.Clock.{Clock}
 use Rattle.rules.specs.declared.Flows.{Flows}
 use Rattle.rules.specs.Lists.{count, sum, Each}
 use Rattle.rules.specs.Tolerance.{default-tolerance}
@@ -48,6 +47,7 @@ pub data SoundNext : NextDone → Type 0 where
 
 -- ---- records
 
+-- An edge: a plain capacity, and two running sums.
 pub record SoundEdge (e : Edge) : Type 0 where
   pub capacity : Plain (e .capacity)
   pub moved : Summed (e .«bytes_moved»)
@@ -60,6 +60,7 @@ pub record SoundRoute (n : ℕ) (r : Route) : Type 0 where
   pub known : (k : ℕ) → k < r .len → getD (r .hops) k 0 < n
   pub blank : (k : ℕ) → r .len ≤ k → getD (r .hops) k 0 ≡ 0
 
+-- A transfer in flight in the simulator f.
 pub record SoundTransfer (f : Flows) (t : Transfer) : Type 0 where
   pub path : SoundRoute (f .«num_edges») (t .path)
   pub latency : Plain (t .«latency_remaining»)
@@ -89,6 +90,7 @@ pub record Balanced (slots : List Transfer) (owner : Owner) (y : Tally) : Type 0
 
 -- ---- the simulator
 
+-- What every simulator that calls have answered keeps, a fact to a line.
 pub record Invariant (f : Flows) : Type 0 where
   -- every table has its size
   pub edge-places : length (f .edges) ≡ max-edges

@@ -1,6 +1,6 @@
 -- The questions. One that brings rates up to date leaves another simulator; the others only read. (01, Questions) Definitions only.
 use Prim.Native.Nat.{ℕ, _+_}
-use mathlib.Core.Bool.{Bool, not, _||_, cond}
+use mathlib.Core.Bool.{not, _||_, cond}
 use mathlib.Core.List.{List, [], _∷_, foldl}
 use lib.ListN.{getD}
 use lib.Ieee.{Float}
@@ -61,6 +61,7 @@ unfoldable pub time-alone : Float → Float → Cap → Float
 time-alone latency bytes Uncapped = latency
 time-alone latency bytes (AtMost c) = cond (nought ≺ c) (latency ⊕ bytes ⊘ c) latency
 
+-- The time by whether the path shares edges.
 unfoldable pub estimate : Flows → List ℕ → Float → Float → Cap → Float
 estimate f [] bytes latency cap = time-alone latency bytes cap
 estimate f (e ∷ path) bytes latency cap = time-at-share latency bytes (capped cap (path-share f (e ∷ path)))
@@ -102,6 +103,7 @@ edge e f = refusing (3 when no-such-edge f e ∷ []) EdgeRead-variants.Refused (
 unfoldable pub mean-over : Float → Edge → Float
 mean-over until e = cond (nought ≺ until) (e .«busy_transfer_seconds» ⊘ until) nought
 
+-- The mean of an edge's load, by its number.
 unfoldable pub mean-in-flight : ℕ → Float → Flows → Answer
 mean-in-flight e until f =
     refusing

@@ -38,6 +38,7 @@ max-slots = 256
 
 -- ---- blanks: what a place holds that nobody uses
 
+-- A place of the edge table beyond the last edge.
 abbrev pub no-edge : Edge
 no-edge = record { capacity = nought; «bytes_moved» = nought; «busy_transfer_seconds» = nought }
 
@@ -59,9 +60,11 @@ free = record {
   «last_update» = nought;
 }
 
+-- A place of the queue beyond the last entry.
 abbrev pub no-completion : Completion
 no-completion = record { owner = Handoff; id = 0 }
 
+-- Nothing counted yet.
 abbrev pub no-tally : Tally
 no-tally = record { submitted = 0; completed = 0; cancelled = 0; «bytes_submitted» = nought }
 
@@ -158,9 +161,11 @@ tally-of Write totals = totals .write
 
 -- ---- one part in another's place
 
+-- Another edge table, with its number of edges.
 unfoldable pub with-edges : List Edge → ℕ → Flows → Flows
 with-edges edges n f = record { edges = edges; «num_edges» = n; «in_flight» = f .«in_flight»; completed = f .completed; «num_completed» = f .«num_completed»; «edge_load» = f .«edge_load»; clock = f .clock; totals = f .totals; tolerance = f .tolerance }
 
+-- Another table of transfers.
 unfoldable pub with-in-flight : List Transfer → Flows → Flows
 with-in-flight slots f = record { edges = f .edges; «num_edges» = f .«num_edges»; «in_flight» = slots; completed = f .completed; «num_completed» = f .«num_completed»; «edge_load» = f .«edge_load»; clock = f .clock; totals = f .totals; tolerance = f .tolerance }
 
@@ -168,12 +173,15 @@ with-in-flight slots f = record { edges = f .edges; «num_edges» = f .«num_edg
 unfoldable pub with-waiting : List Completion → Flows → Flows
 with-waiting queue f = record { edges = f .edges; «num_edges» = f .«num_edges»; «in_flight» = f .«in_flight»; completed = queue ++ replicate (max-slots - length queue) no-completion; «num_completed» = length queue; «edge_load» = f .«edge_load»; clock = f .clock; totals = f .totals; tolerance = f .tolerance }
 
+-- Another load table.
 unfoldable pub with-edge-load : EdgeLoad → Flows → Flows
 with-edge-load load f = record { edges = f .edges; «num_edges» = f .«num_edges»; «in_flight» = f .«in_flight»; completed = f .completed; «num_completed» = f .«num_completed»; «edge_load» = load; clock = f .clock; totals = f .totals; tolerance = f .tolerance }
 
+-- Another clock.
 unfoldable pub with-clock : Clock → Flows → Flows
 with-clock clock f = record { edges = f .edges; «num_edges» = f .«num_edges»; «in_flight» = f .«in_flight»; completed = f .completed; «num_completed» = f .«num_completed»; «edge_load» = f .«edge_load»; clock = clock; totals = f .totals; tolerance = f .tolerance }
 
+-- Other totals.
 unfoldable pub with-totals : Totals → Flows → Flows
 with-totals totals f = record { edges = f .edges; «num_edges» = f .«num_edges»; «in_flight» = f .«in_flight»; completed = f .completed; «num_completed» = f .«num_completed»; «edge_load» = f .«edge_load»; clock = f .clock; totals = totals; tolerance = f .tolerance }
 

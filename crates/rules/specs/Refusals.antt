@@ -39,6 +39,7 @@ pub record Lent : Type 0 where
   pub outcome : Outcome
   pub buffer : List ℕ
 
+-- An outcome with a buffer.
 abbrev pub lent : Outcome → List ℕ → Lent
 lent outcome buffer = record { outcome = outcome; buffer = buffer }
 

@@ -15,6 +15,7 @@ is-no (Value x) = false
 is-no (Wait d) = false
 is-no (Refused n) = true
 
+-- The same of whatever was said.
 unfoldable pub says-no : Said → Bool
 says-no (said answer) = is-no answer
 says-no (listed answer buffer) = is-no answer

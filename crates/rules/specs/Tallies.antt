@@ -25,9 +25,11 @@ pub record Ledger : Type 0 where
   pub completed : List ℕ
   pub cancelled : List ℕ
 
+-- Before any call.
 abbrev pub nothing-noted : Ledger
 nothing-noted = record { in-flight = []; submitted = []; completed = []; cancelled = [] }
 
+-- Whether an entry has that id.
 unfoldable pub has-entry : ℕ → Entry → Bool
 has-entry id e = eqb (e .id) id
 
@@ -39,12 +41,15 @@ without id entries = those (λ e. not (has-entry id e)) entries
 unfoldable pub kinds-of : ℕ → List Entry → List ℕ
 kinds-of id entries = map (λ e. e .kind) (those (has-entry id) entries)
 
+-- A submission noted.
 unfoldable pub note-submitted : ℕ → ℕ → Ledger → Ledger
 note-submitted id kind l = record { in-flight = record { id = id; kind = kind } ∷ l .in-flight; submitted = kind ∷ l .submitted; completed = l .completed; cancelled = l .cancelled }
 
+-- A cancel noted, under the kind that the id was in flight with.
 unfoldable pub note-cancelled : ℕ → Ledger → Ledger
 note-cancelled id l = record { in-flight = without id (l .in-flight); submitted = l .submitted; completed = l .completed; cancelled = kinds-of id (l .in-flight) ++ l .cancelled }
 
+-- A completion noted, under the kind that was listed.
 unfoldable pub note-completed : Entry → Ledger → Ledger
 note-completed e l = record { in-flight = without (e .id) (l .in-flight); submitted = l .submitted; completed = e .kind ∷ l .completed; cancelled = l .cancelled }
 
@@ -117,6 +122,7 @@ unfoldable pub notes : Flows → List Call → Ledger → Ledger
 notes f [] l = l
 notes f (c ∷ calls) l = let after = call c f in notes (after .flows) calls (noted c (after .said) l)
 
+-- All that is noted of calls on a fresh simulator.
 abbrev pub ledger : List Call → Ledger
 ledger calls = notes fresh calls nothing-noted
 
