@@ -1,5 +1,7 @@
 -- Each public contract decides its function: any two outcomes that it allows, buffers among them, are equal. Assumes nothing.
-use mathlib.Core.Path.{sym, _∙_}
+use mathlib.Core.Path.{_≡_, sym, ap, _∙_}
+use Prim.Native.Nat.{ℕ}
+use lib.Ieee.{Float}
 use denote.Ref.{now}
 use Rattle.rules.specs.Unique.{Decided, DecidedWith}
 use Rattle.edits.proofs.add_edge.Reads as add-edge
@@ -34,6 +36,30 @@ use Rattle.lists.proofs.take_completed.Reads as take-completed
 use Rattle.lists.proofs.take_completed.Kinds as take-completed-kinds
 use Rattle.lists.proofs.owners_with_completions.Reads as owners-with-completions
 use Rattle.lists.proofs.owners_with_completions.Kinds as owners-with-completions-kinds
+use Rattle.questions.proofs.now.Reads as reads-now
+use Rattle.questions.proofs.now.Kinds as reads-now-kinds
+use Rattle.questions.proofs.rounds.Reads as rounds
+use Rattle.questions.proofs.rounds.Kinds as rounds-kinds
+use Rattle.questions.proofs.num_edges.Reads as num-edges
+use Rattle.questions.proofs.num_edges.Kinds as num-edges-kinds
+use Rattle.questions.proofs.num_in_flight.Reads as num-in-flight
+use Rattle.questions.proofs.num_in_flight.Kinds as num-in-flight-kinds
+use Rattle.questions.proofs.num_uncollected.Reads as num-uncollected
+use Rattle.questions.proofs.num_uncollected.Kinds as num-uncollected-kinds
+use Rattle.questions.proofs.peak_in_flight.Reads as peak-in-flight
+use Rattle.questions.proofs.peak_in_flight.Kinds as peak-in-flight-kinds
+use Rattle.questions.proofs.totals.Reads as totals
+use Rattle.questions.proofs.totals.Kinds as totals-kinds
+use Rattle.questions.proofs.submitted_counts.Reads as submitted-counts
+use Rattle.questions.proofs.submitted_counts.Kinds as submitted-counts-kinds
+use Rattle.questions.proofs.completed_counts.Reads as completed-counts
+use Rattle.questions.proofs.completed_counts.Kinds as completed-counts-kinds
+use Rattle.questions.proofs.cancelled_counts.Reads as cancelled-counts
+use Rattle.questions.proofs.cancelled_counts.Kinds as cancelled-counts-kinds
+use Rattle.questions.proofs.bytes_submitted.Reads as bytes-submitted
+use Rattle.questions.proofs.bytes_submitted.Kinds as bytes-submitted-kinds
+use Rattle.questions.specs.declared.Counts.{Counts}
+use Rattle.questions.specs.declared.Bytes.{Bytes}
 
 pub add-edge-decided : Decided 0 add-edge-kinds.ps add-edge-kinds.r add-edge.Post
 add-edge-decided κs a z z' e e' p q = p .0 ∙ sym (q .0)
@@ -84,3 +110,51 @@ take-completed-decided κs a z z' e e' p q = (p .0 ∙ sym (q .0), p .1 .0 ∙ s
 
 pub owners-with-completions-decided : DecidedWith 1 owners-with-completions-kinds.ps owners-with-completions-kinds.r owners-with-completions.Post (λ κs e. now (e .1 .0))
 owners-with-completions-decided κs a z z' e e' p q = (p .0 ∙ sym (q .0), p .1 ∙ sym (q .1))
+
+-- ---- plain reads
+
+pub now-decided : Decided 0 reads-now-kinds.ps reads-now-kinds.r reads-now.Post
+now-decided κs a z z' e e' p q = p ∙ sym q
+
+pub rounds-decided : Decided 0 rounds-kinds.ps rounds-kinds.r rounds.Post
+rounds-decided κs a z z' e e' p q = p ∙ sym q
+
+pub num-edges-decided : Decided 0 num-edges-kinds.ps num-edges-kinds.r num-edges.Post
+num-edges-decided κs a z z' e e' p q = p ∙ sym q
+
+pub num-in-flight-decided : Decided 0 num-in-flight-kinds.ps num-in-flight-kinds.r num-in-flight.Post
+num-in-flight-decided κs a z z' e e' p q = p ∙ sym q
+
+pub num-uncollected-decided : Decided 0 num-uncollected-kinds.ps num-uncollected-kinds.r num-uncollected.Post
+num-uncollected-decided κs a z z' e e' p q = p ∙ sym q
+
+pub peak-in-flight-decided : Decided 0 peak-in-flight-kinds.ps peak-in-flight-kinds.r peak-in-flight.Post
+peak-in-flight-decided κs a z z' e e' p q = p ∙ sym q
+
+pub totals-decided : Decided 0 totals-kinds.ps totals-kinds.r totals.Post
+totals-decided κs a z z' e e' p q = p ∙ sym q
+
+-- a struct of three is decided by its fields
+counts-same : {z z' : Counts} → z .worker ≡ z' .worker → z .handoff ≡ z' .handoff → z .write ≡ z' .write → z ≡ z'
+counts-same {z} {z'} a b c =
+    ap (λ (n : ℕ). record { worker = n; handoff = z .handoff; write = z .write }) a
+    ∙ ap (λ (n : ℕ). record { worker = z' .worker; handoff = n; write = z .write }) b
+    ∙ ap (λ (n : ℕ). record { worker = z' .worker; handoff = z' .handoff; write = n }) c
+
+bytes-same : {z z' : Bytes} → z .worker ≡ z' .worker → z .handoff ≡ z' .handoff → z .write ≡ z' .write → z ≡ z'
+bytes-same {z} {z'} a b c =
+    ap (λ (x : Float). record { worker = x; handoff = z .handoff; write = z .write }) a
+    ∙ ap (λ (x : Float). record { worker = z' .worker; handoff = x; write = z .write }) b
+    ∙ ap (λ (x : Float). record { worker = z' .worker; handoff = z' .handoff; write = x }) c
+
+pub submitted-counts-decided : Decided 0 submitted-counts-kinds.ps submitted-counts-kinds.r submitted-counts.Post
+submitted-counts-decided κs a z z' e e' p q = counts-same (p .0 ∙ sym (q .0)) (p .1 .0 ∙ sym (q .1 .0)) (p .1 .1 ∙ sym (q .1 .1))
+
+pub completed-counts-decided : Decided 0 completed-counts-kinds.ps completed-counts-kinds.r completed-counts.Post
+completed-counts-decided κs a z z' e e' p q = counts-same (p .0 ∙ sym (q .0)) (p .1 .0 ∙ sym (q .1 .0)) (p .1 .1 ∙ sym (q .1 .1))
+
+pub cancelled-counts-decided : Decided 0 cancelled-counts-kinds.ps cancelled-counts-kinds.r cancelled-counts.Post
+cancelled-counts-decided κs a z z' e e' p q = counts-same (p .0 ∙ sym (q .0)) (p .1 .0 ∙ sym (q .1 .0)) (p .1 .1 ∙ sym (q .1 .1))
+
+pub bytes-submitted-decided : Decided 0 bytes-submitted-kinds.ps bytes-submitted-kinds.r bytes-submitted.Post
+bytes-submitted-decided κs a z z' e e' p q = bytes-same (p .0 ∙ sym (q .0)) (p .1 .0 ∙ sym (q .1 .0)) (p .1 .1 ∙ sym (q .1 .1))
