@@ -1,30 +1,12 @@
 // Loops over a path, which is lent as the numbers of its edges in order.
 ghost use mathlib.Core.Path.{_≡_};
-ghost use Prim.Native.Nat.{_+_, _-_, _≤_};
+ghost use Prim.Native.Nat.{_+_, _-_};
 ghost use lib.ListN.{length};
 ghost use lib.Dec.{eqb};
 ghost use Rattle.doubles.specs.Doubles.{_⊕_};
 ghost use Rattle.rules.specs.Lists.{any, at-each-crossing};
-ghost use Rattle.rules.specs.Lists.{crossings as the-crossings};
 ghost use Rattle.rules.specs.Filling.{spend as the-spend};
-ghost use Rattle.rules.specs.Records.{own-path};
 ghost use Rattle.paths.specs.Known.{Known, Roomy, Counted};
-
-// How often the path crosses edge e, repeats counted.
-pub fn crossings(path: &[usize], e: usize) -> usize
-    ensures exactly { λ r. ⌜ r ≡ the-crossings e (now (path .entry)) ⌝ }
-    ensures bounded { λ r. ⌜ r ≤ length (now (path .entry)) ⌝ }
-{
-    let mut n: usize = 0;
-    let mut i: usize = 0;
-    while i < path.len() {
-        if e == path[i] {
-            n += 1;
-        }
-        i += 1;
-    }
-    n
-}
 
 // Whether the path crosses edge e at all.
 pub fn crosses(path: &[usize], e: usize) -> bool
