@@ -8,11 +8,11 @@ use Rattle.rules.specs.declared.Flows.{Flows}
 use Rattle.rules.specs.Lists.{map-from}
 use Rattle.rules.specs.Records.{own-path, path-of, counts-in-loads, crossings-by, with-edges, with-in-flight}
 use Rattle.rules.specs.Clock.{edge-loads, gain-busy, drained, drain-slots}
-use Rattle.transfers.specs.Tables.{loads-by, loads}
-use Rattle.transfers.proofs.Places.{map-from-same, map-from-numbers}
-use Rattle.transfers.proofs.Loads.{by-loads}
-use Rattle.transfers.proofs.SlotsKeep.{crossings-drained}
-use Rattle.transfers.proofs.EdgesKeep.{length-delivered}
+use Rattle.crossings.specs.Loads.{loads-by, loads}
+use Rattle.rules.proofs.Numbered.{map-from-same, map-from-numbers}
+use Rattle.crossings.proofs.Loads.{by-loads}
+use Rattle.keeps.proofs.SlotsDrained.{crossings-drained}
+use Rattle.keeps.proofs.EdgesDrained.{length-delivered}
 
 -- the table, over any list of 64 edges
 pub loads-are : (f : Flows) → length (f .edges) ≡ 64 → loads (f .«in_flight») ≡ edge-loads f .load

@@ -1,5 +1,5 @@
 -- What is equal to a state that the rules keep sound is sound; and the load table that a filling keeps. Assumes nothing.
-use mathlib.Core.Path.{_≡_, ap}
+use mathlib.Core.Path.{_≡_}
 use lib.Dec.{T}
 use lib.Ieee.{Float}
 use Rattle.doubles.specs.Doubles.{_≼_}
@@ -7,8 +7,8 @@ use Rattle.rules.specs.declared.EdgeLoad.{EdgeLoad}
 use Rattle.rules.specs.declared.Flows.{Flows}
 use Rattle.rules.specs.Clock.{ensure-rates, drain-to, edge-loads}
 use Rattle.rules.specs.Invariant.{Invariant, ClockTime}
-use Rattle.transfers.specs.Tables.{loads}
-use Rattle.transfers.proofs.Loads.{loads-kept}
+use Rattle.crossings.specs.Loads.{loads}
+use Rattle.crossings.proofs.Loads.{loads-kept}
 use Rattle.keeps.proofs.Refreshing.{ensure-rates-keeps}
 use Rattle.keeps.proofs.Draining.{drain-to-keeps}
 

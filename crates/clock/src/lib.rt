@@ -27,7 +27,7 @@ pub fn ensure_rates(flows: Flows) -> Flows
         let rated = filled.in_flight;
         let eps = transfers::done_eps(tolerance, clock.now);
         let next_done_at = transfers::ahead(clock.now, transfers::soonest(rated, eps));
-        let load = transfers::edge_loads(in_flight);
+        let load = crossings::edge_loads(in_flight);
         let mut after = flows;
         after.in_flight = rated;
         let edge_load = EdgeLoad {
@@ -57,7 +57,7 @@ pub fn drain_to(flows: Flows, until: f64) -> Flows
 {
     let rated = rated_for(flows, until);
     let in_flight = rated.in_flight;
-    let load = transfers::edge_loads(in_flight);
+    let load = crossings::edge_loads(in_flight);
     let drained = drain_slots(rated, until);
     pass_time(drained, load, until)
 }
@@ -106,7 +106,7 @@ pub fn pass_time(flows: Flows, load: [usize; 64], until: f64) -> Flows
     let mut after = flows;
     if dt > 0.0 {
         let edges = flows.edges;
-        let busy = transfers::gain_busy_all(edges, load, dt);
+        let busy = crossings::gain_busy_all(edges, load, dt);
         after.edges = busy;
     }
     let moved = Clock {
@@ -126,8 +126,8 @@ pub fn drain_slots(flows: Flows, until: f64) -> Flows
 {
     let edges = flows.edges;
     let in_flight = flows.in_flight;
-    let credited = transfers::delivered(edges, in_flight, until);
-    let drained = transfers::drained_all(in_flight, until);
+    let credited = draining::delivered(edges, in_flight, until);
+    let drained = draining::drained_all(in_flight, until);
     let mut after = flows;
     after.edges = credited;
     after.in_flight = drained;

@@ -10,6 +10,7 @@ pub mod Quotient
 pub mod Difference
 pub mod Left
 pub mod Signs
+pub mod Monotone
 pub mod Chosen
 pub mod Zeros
 pub mod Bits

@@ -3,7 +3,7 @@
 use Prim.Native.Nat.{ℕ, _+_, _<_, _^_}
 use native.Mathlib.Omega.{arith}
 use mathlib.Core.Path.{_≡_, refl, sym, ap, _∙_}
-use mathlib.Core.Bool.{Bool, true, false, _&&_, cond, true≢false}
+use mathlib.Core.Bool.{true, _&&_, cond}
 use mathlib.Core.List.{map}
 use lib.Dec.{eqb}
 use borrow.Author.Tests.{eqb-true, eq-eqb}
@@ -18,19 +18,16 @@ use Rattle.slots.specs.declared.Lookup.the-variants.{Slot}
 use Rattle.slots.specs.Lookup.{lookup}
 use Rattle.slots.proofs.Found.{Found, somewhere}
 use Rattle.keeps.proofs.Crowd.{Who, same-at, same-length}
-use Rattle.keeps.proofs.Counts.{count-set}
+use Rattle.rules.proofs.Conds.{both}
+use Rattle.rules.proofs.Counting.{count-set}
 use Rattle.keeps.proofs.Tally.{on-tally-is}
 use Rattle.keeps.proofs.Draining.{drained-to-clock-keeps, drained-to-clock-reaches}
-use Rattle.edits.proofs.OneChanged.{one-changed}
+use Rattle.rules.proofs.OneChanged.{one-changed}
 
 -- who has an id is in flight under it
 holds-id : (id : ℕ) (t : Transfer) → has-id id t ≡ true → (t .taken ≡ true) × (t .id ≡ id)
 unfolding has-id
-holds-id id t e = go (t .taken) refl e
-  where
-    go : (b : Bool) → t .taken ≡ b → (b && eqb (t .id) id) ≡ true → (t .taken ≡ true) × (t .id ≡ id)
-    go true taken h = (taken, eqb-true (t .id) id h)
-    go false taken h = absurd (true≢false (sym h))
+holds-id id t e = let w = both (t .taken) (eqb (t .id) id) e in (w .0, eqb-true (t .id) id (w .1))
 
 module _ {f : Flows} (inv : Invariant f) where
   -- a slot that was found is one of the table's

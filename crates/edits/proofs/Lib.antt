@@ -1,4 +1,3 @@
 pub mod Kept
 pub mod Changed
-pub mod OneChanged
 pub mod Freed

@@ -16,8 +16,8 @@ use Rattle.rules.specs.Refusals.{no-such-edge}
 use Rattle.rules.specs.Questions.{new-share, path-share, capped, time-at-share, time-alone, estimate}
 use Rattle.rules.specs.Invariant.{Invariant}
 use Rattle.paths.specs.Known.{Known}
-use Rattle.transfers.specs.Tables.{loads-by}
-use Rattle.transfers.proofs.Loads.{loads-at}
+use Rattle.crossings.specs.Loads.{loads-by}
+use Rattle.crossings.proofs.Loads.{loads-at}
 use Rattle.keeps.proofs.Placing.{known-by}
 use Rattle.estimates.specs.Shares.{share-by, least-by}
 

@@ -1,4 +1,5 @@
 // How long transfers would take: a new one at the share it would get now, and one in flight under its rate.
+use crossings::Counted;
 use rules::Answer;
 use rules::Cap;
 use rules::Delay;
@@ -7,7 +8,6 @@ use rules::Flows;
 use rules::Outcome;
 use rules::Transfer;
 use slots::Lookup;
-use transfers::Counted;
 ghost use mathlib.Core.Path.{_≡_};
 ghost use mathlib.Core.Bool.{_||_};
 ghost use Prim.Native.Nat.{_+_, _≤_};
@@ -17,7 +17,7 @@ ghost use Rattle.rules.specs.Refusals.{not-a-number, not-an-amount, not-a-cap};
 ghost use Rattle.rules.specs.Questions.{estimate-new-capped, estimate-new, estimate, path-share, capped, time-at-share, time-alone, estimate-remaining, remaining, or-nought};
 ghost use Rattle.rules.specs.Invariant.{Invariant};
 ghost use Rattle.paths.specs.Known.{Known};
-ghost use Rattle.transfers.specs.Tables.{loads-by};
+ghost use Rattle.crossings.specs.Loads.{loads-by};
 
 // ---- a new transfer
 
@@ -78,7 +78,7 @@ fn estimate(flows: Flows, path: &[u32], bytes: f64, latency: f64, cap: Cap) -> f
         return time_alone(latency, bytes, cap);
     }
     let in_flight = flows.in_flight;
-    let load = transfers::loads_of(in_flight, Counted::TakingPart);
+    let load = crossings::loads_of(in_flight, Counted::TakingPart);
     let share = path_share(flows, load, path);
     time_at_share(latency, bytes, capped(cap, share))
 }

@@ -6,6 +6,7 @@ use mathlib.Core.Bool.{Bool, true, false}
 use mathlib.Core.List.{List, map}
 use Prim.Native.Nat.{ℕ, suc, _+_, _*_, _≤_, _<_}
 use native.Mathlib.Omega.{arith}
+use lib.Ieee.Bits.{is-true}
 use lib.Dec.{T, ltb}
 use lib.ListN.{length, getD, List·getD-map}
 use lib.Ieee.{Float}
@@ -30,10 +31,6 @@ pub record Explains (path : Transfer → List ℕ) (edges : List Edge) (ts : Lis
   pub carries : C edges e ≤ carried path ts e + slack-of path edges ts e
   pub nobody-faster : (j : ℕ) → T (in-demand path (getD ts j free)) → 0 < crossings e (path (getD ts j free)) → exact (getD ts j free .rate) ≤ exact (getD ts i free .rate) + slack-of path edges ts e
 
-held : (b : Bool) → T b → b ≡ true
-held true h = refl
-held false h = absurd h
-
 module _ (path : Transfer → List ℕ) (edges : List Edge) (K : ℕ → ℕ) (f : Filling) (fills : Fills path edges K f) (over : (i : ℕ) → seat-at f i .unfrozen ≡ false) where
   -- the transfers with their rates
   abbrev pub ts : List Transfer
@@ -43,7 +40,7 @@ module _ (path : Transfer → List ℕ) (edges : List Edge) (K : ℕ → ℕ) (f
   transfer-at i = List·getD-map (λ (s : Seat). s .transfer) (f .seats) i no-seat
 
   given-at : (i : ℕ) → T (in-demand path (getD ts i free)) → given path edges (seat-at f i) ≡ true
-  given-at i h = rw (over i) (held (in-demand path (seat-at f i .transfer)) (rw (transfer-at i) at h))
+  given-at i h = rw (over i) (is-true (in-demand path (seat-at f i .transfer)) (rw (transfer-at i) at h))
 
   settled-at : (i : ℕ) → T (in-demand path (getD ts i free)) → Settled path edges K f (getD ts i free .«rate_cap») (path (getD ts i free)) (getD ts i free .rate)
   settled-at i h = rw (transfer-at i) (fills .settled i (given-at i h))

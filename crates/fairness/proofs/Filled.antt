@@ -19,7 +19,7 @@ use Rattle.rules.specs.Records.{free, takes-part}
 use Rattle.rules.specs.Filling.{Filling, with-rate, seat, start, freeze, round, num-unfrozen, recompute-rates}
 use Rattle.rules.specs.Fair.{in-demand, Fair}
 use Rattle.fairness.specs.Ready.{no-seat, seat-at, KeepsPath, Ready}
-use Rattle.fairness.proofs.Counting.{count-kept, count-map, count-most, none-of-count}
+use Rattle.rules.proofs.Counting.{count-kept, count-map, count-most, none-of-count}
 use Rattle.fairness.proofs.Loads.{unfrozen-inside}
 use Rattle.fairness.proofs.Choice.{load-of}
 use Rattle.fairness.proofs.Rounds.{verdict-of, frozen-stays, freeze-keeps, round-seats, round-seat, round-keeps, rounds-bound, in-the-end}

@@ -18,7 +18,7 @@ use Rattle.rules.specs.Lists.{crossings}
 use Rattle.rules.specs.Filling.{Filling, with-rate, freezes, freeze, crossings-frozen, round, num-unfrozen}
 use Rattle.rules.specs.Fair.{in-demand}
 use Rattle.fairness.specs.Ready.{seat-at, Ready}
-use Rattle.fairness.proofs.Counting.{crosses-some}
+use Rattle.rules.proofs.Crossings.{crosses-some}
 use Rattle.fairness.proofs.Loads.{waits-in-load, load-is-waited}
 use Rattle.fairness.proofs.Choice.{left-of, load-of}
 use Rattle.fairness.proofs.Rounds.{frozen-at, verdict-of, rate-of, freezes-both, freeze-freezes, never-unfreezes, round-seat, round-keeps, round-path, round-edges}

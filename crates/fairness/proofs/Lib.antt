@@ -1,4 +1,3 @@
-pub mod Counting
 pub mod Tightest
 pub mod Loads
 pub mod Choice

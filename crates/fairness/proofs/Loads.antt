@@ -19,7 +19,9 @@ use Rattle.rules.specs.declared.Verdict.the-variants.{ByCap, ByEdge, ByNobody}
 use Rattle.rules.specs.Lists.{crossings}
 use Rattle.rules.specs.Filling.{Filling, tightest, load, share, winning-edge, own-cap, smallest-cap, verdict, num-unfrozen}
 use Rattle.fairness.specs.Ready.{no-seat, seat-at, Ready}
-use Rattle.fairness.proofs.Counting.{some-of-count, sum-at, sum-some, crosses-at}
+use Rattle.rules.proofs.Counting.{some-of-count}
+use Rattle.rules.proofs.Sums.{sum-at, sum-some}
+use Rattle.rules.proofs.Crossings.{crosses-at}
 use Rattle.fairness.proofs.Tightest.{tightest-among, no-candidate, all-nobody}
 
 pub unfrozen-inside : (seats : List Seat) (i : ℕ) → getD seats i no-seat .unfrozen ≡ true → i < length seats

@@ -21,14 +21,14 @@ use Rattle.rules.specs.declared.Seat.{Seat}
 use Rattle.rules.specs.declared.Flows.{Flows}
 use Rattle.rules.specs.Lists.{count}
 use Rattle.rules.specs.Records.{max-slots, free, own-path, path-of, takes-part}
-use Rattle.rules.specs.Filling.{with-rate, lone-rate, entered, seat, start, load, recompute-rates}
+use Rattle.rules.specs.Filling.{with-rate, lone-rate, entered, seat, recompute-rates}
 use Rattle.rules.specs.Fair.{in-demand}
 use Rattle.rules.specs.Invariant.{SoundCap, at-most, uncapped, SoundTransfer, Invariant}
 use Rattle.fairness.specs.Ready.{no-seat, seat-at}
-use Rattle.fairness.proofs.Counting.{count-most, count-all}
+use Rattle.rules.proofs.Counting.{count-most, count-all}
 use Rattle.fairness.proofs.Start.{Enters, seat-enters, own-path-kept, takes-part-taken, own-path-length, sound-taken, paths-known}
 use Rattle.fairness.proofs.Sums.{in-demand-both, in-demand-kept}
-use Rattle.fairness.proofs.Begins.{load-few, enters-in-demand}
+use Rattle.fairness.proofs.Begins.{enters-in-demand}
 use Rattle.fairness.proofs.Filled.{Fillable, filled-length, filled-keeps, filled-stays, filled-rounds, filled-fair}
 
 sound-cap : {cap : Cap} → SoundCap cap → (c : Float) → cap ≡ AtMost c → Plain c
@@ -79,11 +79,6 @@ module _ (f : Flows) (inv : Invariant f) where
     plain-caps = λ i takes. sound-cap (sound-part i takes .cap);
     room = omega (arith, inv .path-room);
   }
-
-  -- no edge is loaded beyond the room that all paths have; rounds only lower it (round-load)
-  pub loads-fit : (e : ℕ) → load (path-of f) (start (path-of f) (f .edges) (f .«in_flight») .seats) e ≤ 2048
-  unfolding start
-  loads-fit e = le-trans (load-few own-path slots e) (inv .path-room)
 
   -- ---- slots
 

@@ -15,7 +15,9 @@ use Rattle.rules.specs.declared.Verdict.the-variants.{ByCap, ByEdge, ByNobody}
 use Rattle.rules.specs.Filling.{Filling, with-rate, winning-edge, smallest-cap, verdict, rate-by, names, freezes, freeze, round, num-unfrozen, rounds-until}
 use Rattle.rules.proofs.Steps.{length-map-from}
 use Rattle.fairness.specs.Ready.{no-seat, seat-at, KeepsPath, Ready}
-use Rattle.fairness.proofs.Counting.{getD-map-all, count-drops, crosses-any}
+use Rattle.rules.proofs.Numbered.{getD-map-all}
+use Rattle.rules.proofs.Counting.{count-drops}
+use Rattle.rules.proofs.Crossings.{crosses-any}
 use Rattle.fairness.proofs.Loads.{unfrozen-inside, load-is-waited, winning-is, smallest-is, Decided, verdict-decided}
 
 -- A seat frozen at a rate.

@@ -20,7 +20,7 @@ use Rattle.rules.specs.declared.Verdict.the-variants.{ByCap, ByEdge, ByNobody}
 use Rattle.rules.specs.Lists.{crossings}
 use Rattle.rules.specs.Filling.{Filling, rate-by, names, freezes}
 use Rattle.fairness.specs.Ready.{seat-at}
-use Rattle.fairness.proofs.Counting.{crosses-any, any-crosses}
+use Rattle.rules.proofs.Crossings.{crosses-any, any-crosses}
 use Rattle.fairness.proofs.Loads.{winning-is, smallest-is, Decided}
 use Rattle.fairness.proofs.Rounds.{freezes-both}
 use Rattle.fairness.proofs.Choice.{left-of, load-of, share-of, winning-least, winning-plain, no-smaller-cap}

@@ -1,13 +1,3 @@
-pub mod Tables
-pub mod Every
-pub mod Putting
-pub mod Ordering
-pub mod Smallest
-pub mod Ranked
-pub mod Passing
-pub mod Loading
-pub mod Freezing
-pub mod Deciding
 pub mod Running
 pub mod Beginning
 pub mod Fillable

@@ -15,11 +15,13 @@ use Rattle.rules.specs.Invariant.{SoundRoute}
 use Rattle.fairness.specs.Ready.{no-seat, seat-at, Ready}
 use Rattle.fairness.proofs.Start.{own-path-kept}
 use Rattle.fairness.proofs.Rounds.{verdict-of, never-unfreezes, frozen-stays, round-seats, round-edges, round-seat, round-keeps, round-freezes, round-ready, one-round-on}
-use Rattle.filling.specs.declared.CapOrder.{CapOrder}
-use Rattle.filling.specs.declared.Scratch.{Scratch}
-use Rattle.filling.specs.Order.{capped, first-cap}
-use Rattle.filling.specs.Filled.{filling, frozen-by, listed, Ordered, Passed, Standing, Frozen, Coming, Begun}
-use Rattle.filling.proofs.Ranked.{Since, next-is-smallest}
+use Rattle.caps.specs.declared.CapOrder.{CapOrder}
+use Rattle.rounds.specs.declared.Scratch.{Scratch}
+use Rattle.caps.specs.Order.{capped, first-cap}
+use Rattle.rounds.specs.Standing.{filling, frozen-by, Standing, Frozen, Coming}
+use Rattle.caps.specs.Listed.{listed, Ordered, Passed}
+use Rattle.filling.specs.Filled.{Begun}
+use Rattle.caps.proofs.Ranked.{Since, next-is-smallest}
 
 -- Where a filling stands that began with a scratch.
 pub record Running (start : Scratch) (o : CapOrder) (f : Scratch) : Type 0 where

@@ -1,93 +1,19 @@
--- What a filling asks of the tables, and what its scratch holds. Definitions only.
-use Prim.Native.Nat.{ℕ, suc, _≤_, _<_}
+-- What a filling asks of the slots, and its scratch as it begins. Definitions only.
+use Prim.Native.Nat.{ℕ, _≤_}
 use mathlib.Core.Path.{_≡_}
-use mathlib.Core.Bool.{true, false}
 use mathlib.Core.List.{List}
-use lib.Ieee.{Float}
-use lib.ListN.{length, getD, take}
+use lib.ListN.{getD}
 use Rattle.rules.specs.declared.Transfer.{Transfer}
-use Rattle.rules.specs.declared.Seat.{Seat}
-use Rattle.rules.specs.declared.Verdict.{Verdict}
-use Rattle.rules.specs.Lists.{map-from, times}
 use Rattle.rules.specs.Records.{max-edges, max-slots, free, own-path}
-use Rattle.rules.specs.Filling.{Filling, load, smallest-cap, num-unfrozen, freeze, crossings-frozen, spend, rate-by}
 use Rattle.rules.specs.Invariant.{SoundRoute, SoundCap}
 use Rattle.fairness.specs.Ready.{no-seat, Ready}
-use Rattle.paths.specs.Known.{Known, Counted}
-use Rattle.filling.specs.declared.CapOrder.{CapOrder}
-use Rattle.filling.specs.declared.Scratch.{Scratch}
-use Rattle.filling.specs.Order.{cap-order, first-cap}
+use Rattle.rounds.specs.declared.Scratch.{Scratch}
+use Rattle.rounds.specs.Standing.{filling, Standing}
 
 -- What a filling asks of the slots: paths over places of the edge table, and plain caps.
 pub record Fillable (slots : List Transfer) : Type 0 where
   pub paths : (i : ℕ) → SoundRoute max-edges (getD slots i free .path)
   pub caps : (i : ℕ) → SoundCap (getD slots i free .«rate_cap»)
-
--- The filling that a scratch stands for.
-abbrev pub filling : Scratch → Filling
-filling f = record { seats = f .seats; residual = f .residual; rounds = f .rounds }
-
--- A filling once a verdict is carried out: what a round does with its own verdict.
-unfoldable pub frozen-by : Verdict → Filling → Filling
-frozen-by v f =
-    record {
-      seats = map-from 0 (freeze own-path v) (f .seats);
-      residual = map-from 0 (λ e r. times (crossings-frozen own-path v (f .seats) e) (spend (rate-by v)) r) (f .residual);
-      rounds = suc (f .rounds);
-    }
-
--- A table with each edge's load.
-pub record Loads (seats : List Seat) (table : List ℕ) : Type 0 where
-  pub places : length table ≡ max-edges
-  pub right : (e : ℕ) → e < max-edges → getD table e 0 ≡ load own-path seats e
-
--- The slots that an order lists.
-abbrev pub listed : CapOrder → List ℕ
-listed o = take (o .len) (o .slots)
-
--- An order's table has its size, and lists slots that there are.
-pub record Sized (o : CapOrder) : Type 0 where
-  pub places : length (o .slots) ≡ max-slots
-  pub few : o .len ≤ max-slots
-  pub known : Known max-slots (listed o)
-
--- An order lists the seats' caps in their order.
-pub record Ordered (seats : List Seat) (o : CapOrder) : Type 0 where
-  pub table : Sized o
-  pub order : listed o ≡ cap-order seats
-
--- All in the order before a place are frozen.
-pub record Passed (seats : List Seat) (order : List ℕ) (cursor : ℕ) : Type 0 where
-  pub within : cursor ≤ length order
-  pub frozen : (k : ℕ) → k < cursor → getD seats (getD order k 0) no-seat .unfrozen ≡ false
-
--- What the freezing of a seat asks of the tables: its path runs over their places, and the loads count it while it waits.
-pub record Freezable (s : Seat) (residual : List Float) (table : List ℕ) : Type 0 where
-  pub edges : length residual ≡ max-edges
-  pub loads : length table ≡ max-edges
-  pub path : SoundRoute max-edges (s .transfer .path)
-  pub counted : s .unfrozen ≡ true → Counted (own-path (s .transfer)) table
-
--- What holds of a scratch between rounds, whatever the rounds were.
-pub record Standing (f : Scratch) : Type 0 where
-  pub places : length (f .seats) ≡ max-slots
-  pub edges : length (f .residual) ≡ max-edges
-  pub loads : Loads (f .seats) (f .load)
-  pub paths : (i : ℕ) → SoundRoute max-edges (getD (f .seats) i no-seat .transfer .path)
-  pub counted : f .unfrozen ≡ num-unfrozen (filling f)
-
--- A scratch after a verdict: the filling that the definition has then, with the loads and the number unfrozen that go with it.
-pub record Frozen (f : Scratch) (v : Verdict) (cursor : ℕ) (r : Scratch) : Type 0 where
-  pub same : filling r ≡ frozen-by v (filling f)
-  pub loads : Loads (r .seats) (r .load)
-  pub counted : r .unfrozen ≡ num-unfrozen (filling r)
-  pub passed : r .«cap_cursor» ≡ cursor
-
--- A scratch and the order of caps that it goes through: the first that is left there is the smallest cap of all.
-pub record Coming (o : CapOrder) (f : Scratch) : Type 0 where
-  pub table : Sized o
-  pub passed : Passed (f .seats) (listed o) (f .«cap_cursor»)
-  pub ranked : first-cap (f .seats) (listed o) ≡ smallest-cap (filling f)
 
 -- A scratch as a filling begins.
 pub record Begun (f : Scratch) : Type 0 where

@@ -14,10 +14,8 @@ use Rattle.rules.specs.Records.{owner-kind, has-id, of-id, contains, with-in-fl
 use Rattle.rules.specs.Calls.{drained-to-clock, count-cancelled, owner-of, cancelled}
 use Rattle.rules.specs.Invariant.{Invariant}
 use Rattle.rules.specs.Tallies.{Entry, Ledger, number-of, kind-of, has-entry, without, kinds-of, note-cancelled}
-use Rattle.fairness.proofs.Counting.{count-map}
-use Rattle.keeps.proofs.Counts.{count-same, count-those}
+use Rattle.rules.proofs.Counting.{count-map, count-same, count-those, count-append, count-split}
 use Rattle.keeps.proofs.Draining.{drained-to-clock-reaches}
-use Rattle.histories.proofs.Counting.{count-append, count-split}
 use Rattle.histories.proofs.Agreement.{Agrees, entry, unheard-reached, agrees-unheard}
 use Rattle.histories.proofs.Counters.{counts, counts-nothing, slots-on-tally}
 use Rattle.histories.proofs.Slots.{count-freed, one-holder}

@@ -17,9 +17,9 @@ use Rattle.rules.specs.Done.{done-eps, is-done}
 use Rattle.rules.specs.Queue.{queued}
 use Rattle.rules.specs.Calls.{done-now, by-id, done-list, count-completed, completed-one, completed}
 use Rattle.rules.specs.Tallies.{Entry, Ledger, number-of, kind-of, has-entry}
-use Rattle.fairness.proofs.Counting.{count-map}
-use Rattle.keeps.proofs.Counts.{count-same, count-those}
-use Rattle.histories.proofs.Counting.{eqb-swap, count-same-at, count-split, count-some, any-some, any-none, fold-keeps, fold-counts}
+use Rattle.rules.proofs.Counting.{count-map, count-same, count-those, count-same-at, count-split, count-some, any-some, any-none}
+use Rattle.rules.proofs.Crossings.{eqb-swap}
+use Rattle.rules.proofs.Folds.{fold-keeps, fold-counts}
 use Rattle.histories.proofs.Agreement.{Agrees, in-slot, entry, entry-of}
 use Rattle.histories.proofs.Counters.{counts, counts-nothing, slots-on-tally}
 use Rattle.histories.proofs.Slots.{count-freed, has-own-id}

@@ -1,6 +1,6 @@
 -- After every history of calls the simulator agrees with the notes of whoever listened, since the fresh one does and each call keeps it so; and where they agree, the
 -- invariant's balance is the notes'. Assumes nothing.
-use mathlib.Core.Path.{_≡_, refl, sym, ap, _∙_}
+use mathlib.Core.Path.{_≡_, refl, sym, ap}
 use mathlib.Core.List.{List, [], _∷_}
 use native.Mathlib.Omega.{arith}
 use lib.Dec.{T}

@@ -1,4 +1,3 @@
-pub mod Counting
 pub mod Agreement
 pub mod Counters
 pub mod Slots

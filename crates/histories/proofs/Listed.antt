@@ -9,8 +9,8 @@ use Rattle.rules.specs.declared.Completion.{Completion}
 use Rattle.rules.specs.Lists.{count, any, write-front}
 use Rattle.rules.specs.Queue.{triples}
 use Rattle.rules.specs.Tallies.{Entry, Ledger, number-of, kind-of, has-entry, without, note-completed, entries}
-use Rattle.keeps.proofs.Counts.{count-same, count-those}
-use Rattle.histories.proofs.Counting.{fold-keeps, fold-counts}
+use Rattle.rules.proofs.Counting.{count-same, count-those}
+use Rattle.rules.proofs.Folds.{fold-keeps, fold-counts}
 use Rattle.histories.proofs.Agreement.{entry-of}
 
 -- ---- reading back

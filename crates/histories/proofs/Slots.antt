@@ -14,9 +14,8 @@ use Rattle.rules.specs.Records.{free, has-id}
 use Rattle.rules.specs.Calls.{placed}
 use Rattle.rules.specs.Invariant.{Invariant}
 use Rattle.rules.specs.Tallies.{Entry}
-use Rattle.keeps.proofs.Counts.{count-set, count-cleared}
+use Rattle.rules.proofs.Counting.{count-set, count-cleared, count-split, count-one-place}
 use Rattle.keeps.proofs.Placing.{placed-somewhere}
-use Rattle.histories.proofs.Counting.{count-split, count-one-place}
 use Rattle.histories.proofs.Agreement.{in-slot}
 
 module _ (p : Entry → Bool) where

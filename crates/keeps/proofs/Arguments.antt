@@ -27,7 +27,7 @@ use Rattle.rules.specs.declared.Cap.the-variants.{AtMost, Uncapped}
 use Rattle.rules.specs.Refusals.{not-a-number, not-an-amount, not-a-time, not-a-cap, read-cap}
 use Rattle.rules.specs.Histories.{typed-cap}
 use Rattle.rules.specs.Invariant.{ClockTime, SoundCap, at-most, uncapped}
-use Rattle.transfers.proofs.Monotone.{sum-rounded}
+use Rattle.doubles.proofs.Monotone.{sum-rounded}
 use Rattle.keeps.proofs.Refusing.{neither}
 
 pub le-itself : {x : Float} → Plain x → T (x ≼ x)

@@ -27,7 +27,7 @@ use Rattle.rules.specs.Questions.{next-completion-delay, estimate-remaining, ra
 use Rattle.rules.specs.Histories.{typed-cap}
 use Rattle.rules.specs.Invariant.{ClockTime, SoundEdge, Invariant}
 use Rattle.rules.proofs.Fresh.{nought-summed}
-use Rattle.transfers.proofs.Conds.{by-test}
+use Rattle.rules.proofs.Conds.{by-test}
 use Rattle.keeps.proofs.Drained.{made-stale-keeps}
 use Rattle.keeps.proofs.Refusing.{refused-or, neither}
 use Rattle.keeps.proofs.Arguments.{number-floored, amount-plain, time-clock, time-no-earlier, cap-sound, widened-plain}

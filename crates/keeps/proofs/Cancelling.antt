@@ -2,12 +2,11 @@
 use Prim.Native.Nat.{ℕ, suc, _+_}
 use native.Mathlib.Omega.{arith}
 use mathlib.Core.Path.{_≡_, refl, sym, ap, _∙_}
-use mathlib.Core.Bool.{Bool, true, false, _&&_, _||_, cond, true≢false}
+use mathlib.Core.Bool.{Bool, true, false, _||_, cond, true≢false}
 use mathlib.Core.List.{List, [], _∷_, map}
 use lib.Dec.{eqb}
 use borrow.Author.Tests.{eqb-true, eq-eqb}
-use lib.ListN.{getD, set, length-map, length-set}
-use lib.Seq.{ext-getD}
+use lib.ListN.{getD, set}
 use Rattle.rules.specs.declared.Owner.{Owner}
 use Rattle.rules.specs.declared.Transfer.{Transfer}
 use Rattle.rules.specs.declared.Totals.{Totals}
@@ -19,9 +18,11 @@ use Rattle.rules.specs.Invariant.{SoundSlot, of-kind, Invariant}
 use Rattle.keeps.proofs.Parts.{CrowdSound}
 use Rattle.keeps.proofs.Crowd.{Who, same-at}
 use Rattle.keeps.proofs.Drained.{Owing, AllOwing, Drained, made-stale-keeps, free-slot}
-use Rattle.keeps.proofs.Counts.{one-if, count-set, count-cleared}
+use Rattle.rules.proofs.Conds.{both}
+use Rattle.rules.proofs.OneChanged.{one-changed}
+use Rattle.rules.proofs.Counting.{one-if, count-set, count-cleared}
 use Rattle.keeps.proofs.Tally.{changed, changed-peak, on-tally-is, each-tally}
-use Rattle.keeps.proofs.Slots.{other-slots, set-cases, cleared, cleared-read, each-cleared, crowd-cleared, taken-inside}
+use Rattle.keeps.proofs.Slots.{other-slots, cleared, each-cleared, crowd-cleared, taken-inside}
 use Rattle.keeps.proofs.Reached.{Reached}
 
 -- The slot of an id, and whose it is.
@@ -29,10 +30,6 @@ record Holding (id : ℕ) (owner : Owner) (t : Transfer) : Type 0 where
   pub taken : t .taken ≡ true
   pub id-is : t .id ≡ id
   pub owner-is : owner ≡ t .owner
-
-both : (a b : Bool) → (a && b) ≡ true → (a ≡ true) × (b ≡ true)
-both true b h = (refl, h)
-both false b h = absurd (true≢false (sym h))
 
 found : (id : ℕ) (slots : List Transfer) → any (has-id id) slots ≡ true → (j : ℕ) × Holding id (owner-of id slots) (getD slots j free)
 unfolding any has-id owner-of of-id
@@ -53,23 +50,9 @@ found id (t ∷ slots) h = go (has-id id t) refl (found id slots)
 cleared-one : (id : ℕ) {owner : Owner} (slots : List Transfer) → CrowdSound slots → (j : ℕ) → Holding id owner (getD slots j free) → map (cleared (has-id id)) slots ≡ set slots j free
 unfolding has-id
 cleared-one id slots crowd j here =
-    ext-getD free (map (cleared (has-id id)) slots) (set slots j free) (length-map slots (cleared (has-id id)) ∙ sym (length-set slots j free)) (λ i l.
-    set-cases slots j free (taken-inside slots j (here .taken)) (λ i t. getD (map (cleared (has-id id)) slots) i free ≡ t) cleared-here cleared-not i)
-  where
-    chosen : (i : ℕ) (b : Bool) → has-id id (getD slots i free) ≡ b → getD (map (cleared (has-id id)) slots) i free ≡ cond b free (getD slots i free)
-    chosen i b e = cleared-read (has-id id) slots i ∙ ap (λ (c : Bool). cond c free (getD slots i free)) e
-
-    cleared-here : getD (map (cleared (has-id id)) slots) j free ≡ free
-    cleared-here = chosen j true (rw (here .taken) (eq-eqb (getD slots j free .id) id (here .id-is)))
-
-    cleared-not : (i : ℕ) → (i ≡ j → ⊥) → getD (map (cleared (has-id id)) slots) i free ≡ getD slots i free
-    cleared-not i other = go (has-id id (getD slots i free)) refl
-      where
-        go : (b : Bool) → has-id id (getD slots i free) ≡ b → getD (map (cleared (has-id id)) slots) i free ≡ getD slots i free
-        go true e =
-            let parts = both (getD slots i free .taken) (eqb (getD slots i free .id) id) e in
-            absurd (other (crowd .ids-differ i j (parts .0) (here .taken) (eqb-true (getD slots i free .id) id (parts .1) ∙ sym (here .id-is))))
-        go false e = chosen i false e
+    one-changed (has-id id) free free slots j (taken-inside slots j (here .taken)) (rw (here .taken) (eq-eqb (getD slots j free .id) id (here .id-is))) (λ i l e.
+    let parts = both (getD slots i free .taken) (eqb (getD slots i free .id) id) e in
+    crowd .ids-differ i j (parts .0) (here .taken) (eqb-true (getD slots i free .id) id (parts .1) ∙ sym (here .id-is)))
 
 module _ (id : ℕ) (f : Flows) (known : contains id f ≡ true) (g : Flows) (reached : Reached (f .clock .now) f g) where
   abbrev whose : Owner

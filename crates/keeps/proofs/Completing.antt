@@ -15,10 +15,9 @@ use Rattle.rules.specs.Done.{done-eps, is-done}
 use Rattle.rules.specs.Queue.{inserted, queued}
 use Rattle.rules.specs.Calls.{done-now, by-id, done-list, count-completed, completed-one, completed}
 use Rattle.rules.specs.Invariant.{SoundSlot, of-kind, Invariant}
-use Rattle.fairness.proofs.Counting.{count-map}
+use Rattle.rules.proofs.Counting.{count-map, one-if, count-same, count-those, count-cleared, count-everyone}
 use Rattle.keeps.proofs.Parts.{parts}
 use Rattle.keeps.proofs.Drained.{AllAt, owed-by, Owing, Drained, drained-parts, made-stale-keeps, slot-in, free-slot}
-use Rattle.keeps.proofs.Counts.{one-if, count-same, count-those, count-cleared, count-everyone}
 use Rattle.keeps.proofs.Tally.{changed, changed-peak, on-tally-is, each-tally}
 use Rattle.keeps.proofs.Slots.{other-slots, cleared, each-cleared, crowd-cleared}
 use Rattle.keeps.proofs.Ascending.{ascending-inserted, inserted-length}

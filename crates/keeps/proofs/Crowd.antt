@@ -16,8 +16,8 @@ use Rattle.rules.specs.declared.Clock.{Clock}
 use Rattle.rules.specs.Lists.{count, sum, crossings}
 use Rattle.rules.specs.Records.{free, own-path, owner-kind, counts-in-loads, crossings-by, tally-of}
 use Rattle.rules.specs.Invariant.{of-kind, Balanced}
-use Rattle.fairness.proofs.Counting.{count-map}
-use Rattle.transfers.proofs.Places.{map-from-same, map-from-numbers}
+use Rattle.rules.proofs.Counting.{count-map}
+use Rattle.rules.proofs.Numbered.{map-from-same, map-from-numbers}
 use Rattle.keeps.proofs.Parts.{CrowdSound, TotalsSound, RatesSound, loads}
 
 -- What no drain and no filling changes of a transfer.

@@ -19,7 +19,7 @@ use Rattle.rules.specs.Lists.{count, Each}
 use Rattle.rules.specs.Tolerance.{default-tolerance}
 use Rattle.rules.specs.Records.{max-slots, free, owner-kind, tally-of, with-clock, made-stale}
 use Rattle.rules.specs.Invariant.{Summed, SoundTransfer, SoundSlot, of-kind, Invariant}
-use Rattle.transfers.proofs.Routes.{route-more}
+use Rattle.rules.proofs.Routes.{route-more}
 use Rattle.keeps.proofs.Parts.{ClockSound, EdgesSound, QueueSound, CrowdSound, SlotsSound, TotalsSound, Parts, joined}
 
 -- All in flight have been drained to the time T.

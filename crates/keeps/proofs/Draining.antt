@@ -16,11 +16,11 @@ use Rattle.rules.specs.Records.{free, own-path, with-edges, with-in-flight}
 use Rattle.rules.specs.Clock.{ensure-rates, moves, bytes-flowing, drained, gain-moved, deliver, pass-time, drain-slots, drain-to}
 use Rattle.rules.specs.Calls.{drained-to-clock}
 use Rattle.rules.specs.Invariant.{ClockTime, SoundSlot, Invariant}
-use Rattle.transfers.proofs.Conds.{by-test}
-use Rattle.transfers.proofs.Stalls.{elapsed}
-use Rattle.transfers.proofs.DrainKeeps.{Same, drained-same}
-use Rattle.transfers.proofs.SlotsKeep.{drained-together, slots-kept}
-use Rattle.transfers.proofs.EdgesKeep.{length-delivered, delivered-sound, delivered-away}
+use Rattle.rules.proofs.Conds.{by-test}
+use Rattle.keeps.proofs.Stalls.{elapsed}
+use Rattle.keeps.proofs.OneDrained.{Same, drained-same}
+use Rattle.keeps.proofs.SlotsDrained.{drained-together, slots-kept}
+use Rattle.keeps.proofs.EdgesDrained.{length-delivered, delivered-sound, delivered-away}
 use Rattle.keeps.proofs.Arguments.{le-itself}
 use Rattle.keeps.proofs.Parts.{EdgesSound, parts}
 use Rattle.keeps.proofs.Crowd.{who, Alike, same-crowd}

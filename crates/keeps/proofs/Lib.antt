@@ -1,9 +1,13 @@
+pub mod Stalls
+pub mod OneDrained
+pub mod SlotsDrained
+pub mod EdgesDrained
+pub mod Waits
 pub mod Parts
 pub mod Crowd
 pub mod Drained
 pub mod Refusing
 pub mod Edges
-pub mod Counts
 pub mod Tally
 pub mod Slots
 pub mod Arguments

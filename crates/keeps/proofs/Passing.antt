@@ -16,11 +16,11 @@ use Rattle.rules.specs.Records.{free, own-path, counts-in-loads, crossings-by, 
 use Rattle.rules.specs.Clock.{gain-busy, pass-time}
 use Rattle.rules.specs.Invariant.{ClockTime, SoundSlot, Invariant}
 use Rattle.rules.proofs.Steps.{length-map-from}
-use Rattle.transfers.proofs.Conds.{by-test}
-use Rattle.transfers.proofs.Monotone.{plain-le-trans}
-use Rattle.transfers.proofs.Stalls.{elapsed}
-use Rattle.transfers.proofs.Loads.{few-loads}
-use Rattle.transfers.proofs.EdgesKeep.{loads-away, busy-sound, busy-away}
+use Rattle.rules.proofs.Conds.{by-test}
+use Rattle.doubles.proofs.Monotone.{plain-le-trans}
+use Rattle.keeps.proofs.Stalls.{elapsed}
+use Rattle.crossings.proofs.Loads.{few-loads}
+use Rattle.keeps.proofs.EdgesDrained.{loads-away, busy-sound, busy-away}
 use Rattle.keeps.proofs.Parts.{EdgesSound, SlotsSound, parts, joined}
 use Rattle.keeps.proofs.Crowd.{Alike, same-crowd, same-totals, same-rates}
 use Rattle.keeps.proofs.Drained.{sound-in}

@@ -15,7 +15,7 @@ use Rattle.rules.specs.Calls.{placed}
 use Rattle.rules.specs.Invariant.{SoundRoute}
 use Rattle.rules.proofs.Each.{each-same}
 use Rattle.keeps.proofs.Refusing.{neither}
-use Rattle.keeps.proofs.Counts.{one-if}
+use Rattle.rules.proofs.Counting.{one-if}
 
 -- ---- the path
 

@@ -16,8 +16,8 @@ use Rattle.rules.specs.Filling.{with-rate, recompute-rates}
 use Rattle.rules.specs.Clock.{edge-loads, with-rates, ensure-rates}
 use Rattle.rules.specs.Invariant.{SoundTransfer, SoundSlot, Invariant}
 use Rattle.fairness.proofs.Rates.{rated, SoundRate, rated-length, rated-keeps, rated-stays, rates-plain, few-rounds, rounds-in-slots}
-use Rattle.transfers.proofs.Conds.{by-test}
-use Rattle.transfers.proofs.Waits.{next-sound}
+use Rattle.rules.proofs.Conds.{by-test}
+use Rattle.keeps.proofs.Waits.{next-sound}
 use Rattle.keeps.proofs.Parts.{parts, joined}
 use Rattle.keeps.proofs.Crowd.{who, Alike, same-taken, same-crowd, same-totals, same-loads}
 use Rattle.keeps.proofs.Drained.{AllAt, slot-in}

@@ -17,10 +17,10 @@ use Rattle.rules.specs.Lists.{sum, Each}
 use Rattle.rules.specs.Records.{max-slots, free, own-path, with-in-flight, with-totals}
 use Rattle.rules.specs.Invariant.{SoundSlot}
 use Rattle.rules.proofs.Each.{each-map}
-use Rattle.transfers.proofs.Conds.{by-test}
+use Rattle.rules.proofs.Conds.{by-test}
 use Rattle.keeps.proofs.Parts.{CrowdSound}
 use Rattle.keeps.proofs.Drained.{AllAt, AllOwing, Drained, slot-in, free-slot}
-use Rattle.keeps.proofs.Counts.{sum-bound}
+use Rattle.rules.proofs.Sums.{sum-bound}
 
 -- ---- room for paths
 

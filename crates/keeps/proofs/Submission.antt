@@ -27,12 +27,12 @@ use Rattle.rules.specs.Clock.{drain-to}
 use Rattle.rules.specs.Calls.{submitted-transfer, count-submitted, peak-taken, submitted}
 use Rattle.rules.specs.Invariant.{SoundCap, SoundTransfer, SoundSlot, of-kind, Invariant}
 use Rattle.rules.proofs.Each.{each-set}
-use Rattle.transfers.proofs.Monotone.{count-le}
-use Rattle.transfers.proofs.Stalls.{summed}
+use Rattle.doubles.proofs.Monotone.{count-le}
+use Rattle.keeps.proofs.Stalls.{summed}
 use Rattle.keeps.proofs.Arguments.{le-itself}
 use Rattle.keeps.proofs.Crowd.{Who, same-count, same-at, same-taken}
 use Rattle.keeps.proofs.Drained.{Owing, AllOwing, Drained, made-stale-keeps}
-use Rattle.keeps.proofs.Counts.{one-if, count-set}
+use Rattle.rules.proofs.Counting.{one-if, count-set}
 use Rattle.keeps.proofs.Tally.{changed, changed-peak, on-tally-is, same-kind, each-tally}
 use Rattle.keeps.proofs.Slots.{other-slots, crowd-set}
 use Rattle.keeps.proofs.Placing.{route-sound, Placed, placed-somewhere, nobody-passes}

@@ -2,7 +2,7 @@
 use mathlib.Core.Path.{_≡_, refl, ap, _∙_}
 use mathlib.Core.Bool.{Bool, true, false, cond}
 use mathlib.Core.List.{List, [], _∷_}
-use Prim.Native.Nat.{ℕ, suc, _+_, _≤_, _<_}
+use Prim.Native.Nat.{ℕ, _+_, _≤_, _<_}
 use native.Mathlib.Omega.{arith}
 use lib.ListN.{length, take, drop, getD}
 use Rattle.rules.specs.Lists.{count, those}
@@ -34,12 +34,3 @@ module _ {A : Type 0} (p : A → Bool) where
       go : (b : Bool) → length (those p xs) ≡ count p xs → length (cond b (x ∷ those p xs) (those p xs)) ≡ cond b 1 0 + count p xs
       go true e = omega arith
       go false e = omega arith
-
-  pub those-few : (xs : List A) → length (those p xs) ≤ length xs
-  unfolding those
-  those-few [] = omega arith
-  those-few (x ∷ xs) = go (p x) (those-few xs)
-    where
-      go : (b : Bool) → length (those p xs) ≤ length xs → length (cond b (x ∷ those p xs) (those p xs)) ≤ suc (length xs)
-      go true h = omega arith
-      go false h = omega arith

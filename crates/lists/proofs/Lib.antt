@@ -2,5 +2,4 @@ pub mod Fronts
 pub mod Chosen
 pub mod Adjacent
 pub mod Taking
-pub mod Collected
 pub mod Kept

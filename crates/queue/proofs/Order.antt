@@ -1,7 +1,7 @@
 -- What the tests of order and sameness say of the numbers, and what follows from them: no completion stands before itself. Assumes nothing.
-use mathlib.Core.Path.{_≡_, refl, sym}
+use mathlib.Core.Path.{_≡_}
 use mathlib.Core.Logic.{_⊎_, inl, inr, ⊎-elim}
-use mathlib.Core.Bool.{Bool, true, false, _&&_, _||_, true≢false}
+use mathlib.Core.Bool.{true, _&&_}
 use Prim.Native.Nat.{_<_}
 use native.Mathlib.Omega.{arith}
 use borrow.Author.Tests.{ltb-true, eqb-true}
@@ -10,14 +10,7 @@ use Rattle.rules.specs.declared.Owner.{Owner}
 use Rattle.rules.specs.declared.Completion.{Completion}
 use Rattle.rules.specs.Records.{owner-kind, owner-worker, same-owner, owner-before, before}
 use Rattle.rules.specs.Queue.{same-completion}
-
-both : (a b : Bool) → (a && b) ≡ true → (a ≡ true) × (b ≡ true)
-both true b e = (refl, e)
-both false b e = absurd (true≢false (sym e))
-
-either : (a b : Bool) → (a || b) ≡ true → (a ≡ true) ⊎ (b ≡ true)
-either true b e = inl refl
-either false b e = inr e
+use Rattle.rules.proofs.Conds.{both, either}
 
 -- one owner: the same kind and the same worker number
 pub same-owner-is : (a b : Owner) → same-owner a b ≡ true → (owner-kind a ≡ owner-kind b) × (owner-worker a ≡ owner-worker b)

@@ -1,7 +1,7 @@
 -- The cases hold: the definitions, computed on the fresh simulator, give what each table says. Assumes nothing.
 use mathlib.Core.Path.{_≡_, refl}
 use mathlib.Core.Bool.{true}
-use Rattle.rules.specs.Cases.{CasesHold, holds, vault-door, collection, edge-limit, both-sides, lowest-first}
+use Rattle.rules.specs.Cases.{CasesHold, holds, vault-door, collection, edge-limit, both-sides, crossing-by-crossing, lowest-first}
 use Rattle.rules.proofs.Everything.{everything}
 
 -- the twelve that are marked
@@ -24,6 +24,10 @@ edge-limit-holds = refl
 pub both-sides-holds : holds both-sides ≡ true
 unfolding everything
 both-sides-holds = refl
+
+pub crossing-by-crossing-holds : holds crossing-by-crossing ≡ true
+unfolding everything
+crossing-by-crossing-holds = refl
 
 pub lowest-first-holds : holds lowest-first ≡ true
 unfolding everything

@@ -1,5 +1,14 @@
 pub mod Steps
 pub mod Each
+pub mod Conds
+pub mod Tables
+pub mod OneChanged
+pub mod Numbered
+pub mod Counting
+pub mod Sums
+pub mod Crossings
+pub mod Folds
+pub mod Routes
 pub mod Everything
 pub mod Fresh
 pub mod Cases

@@ -27,17 +27,17 @@ use Rattle.rules.specs.Queue.{queued, triples}
 
 -- ---- edges
 
--- The simulator drained to its clock, as every change of edges and every known cancel begins.
+-- The simulator drained to its clock, as every change of edges and every known cancel begins. (01, Clock)
 unfoldable pub drained-to-clock : Flows → Flows
 drained-to-clock f = drain-to (f .clock .now) f
 
--- The simulator drained to its clock, with one more edge.
+-- The simulator drained to its clock, with one more edge. (01, Clock)
 unfoldable pub edge-added : Float → Flows → Flows
 edge-added capacity f =
     let d = drained-to-clock f in
     made-stale (with-edges (set (d .edges) (d .«num_edges») (record { capacity = capacity; «bytes_moved» = nought; «busy_transfer_seconds» = nought })) (suc (d .«num_edges»)) d)
 
--- One more edge, which gets the next number.
+-- One more edge, which gets the next number. (01, Numbers and Clock)
 unfoldable pub add-edge : Float → Flows → Outcome
 add-edge capacity f =
     refusing
@@ -46,17 +46,17 @@ add-edge capacity f =
     ∷ []) (refused f)
     (answering (Added (f .«num_edges»)) (edge-added (read-zero capacity) f))
 
--- The capacity of an edge with some amount more.
+-- The capacity of an edge with some amount more. (01, Clock)
 unfoldable pub wider : Float → Edge → Float
 wider amount e = e .capacity ⊕ amount
 
--- The simulator drained to its clock, with an edge of another capacity.
+-- The simulator drained to its clock, with an edge of another capacity. (01, Clock)
 unfoldable pub edge-widened : ℕ → Float → Flows → Flows
 edge-widened e amount f =
     let d = drained-to-clock f in
     made-stale (with-edges (update e (λ edge. record { capacity = wider amount edge; «bytes_moved» = edge .«bytes_moved»; «busy_transfer_seconds» = edge .«busy_transfer_seconds» }) (d .edges)) (d .«num_edges») d)
 
--- An amount added to an edge's capacity. An absent edge has no capacity that could go wrong, so only the amount itself comes before 3.
+-- An amount added to an edge's capacity. An absent edge has no capacity that could go wrong, so only the amount itself comes before 3. (01, Numbers and Clock)
 unfoldable pub widen : ℕ → Float → Flows → Outcome
 widen e amount f =
     refusing
@@ -67,7 +67,7 @@ widen e amount f =
 
 -- ---- submission
 
--- A submitted transfer: a latency below zero is none, its rate is 0 until a filling, and it has been drained up to its own time.
+-- A submitted transfer: a latency below zero is none, its rate is 0 until a filling, and it has been drained up to its own time. (01, Clock)
 unfoldable pub submitted-transfer : ℕ → Owner → List ℕ → ℕ → Float → Cap → Float → Transfer
 submitted-transfer id owner path bytes latency cap T = record {
   taken = true;
@@ -81,7 +81,7 @@ submitted-transfer id owner path bytes latency cap T = record {
   «last_update» = T;
 }
 
--- The transfer put into the lowest free slot.
+-- The transfer put into the lowest free slot. (01, Sizes)
 unfoldable pub placed : Transfer → List Transfer → List Transfer
 placed t [] = []
 placed t (x ∷ slots) = let past = x ∷ placed t slots in cond (x .taken) past (t ∷ slots)
@@ -90,17 +90,17 @@ placed t (x ∷ slots) = let past = x ∷ placed t slots in cond (x .taken) past
 unfoldable pub count-submitted : ℕ → Tally → Tally
 count-submitted bytes y = record { submitted = y .submitted + 1; completed = y .completed; cancelled = y .cancelled; «bytes_submitted» = y .«bytes_submitted» ⊕ whole bytes }
 
--- The peak raised to the number in flight.
+-- The peak raised to the number in flight. (01, Clock)
 unfoldable pub peak-taken : Flows → Flows
 peak-taken f = with-totals (record { «peak_in_flight» = max (f .totals .«peak_in_flight») (num-in-flight f); worker = f .totals .worker; handoff = f .totals .handoff; write = f .totals .write }) f
 
--- Drained to its time, then counted, then inserted, then the peak.
+-- Drained to its time, then counted, then inserted, then the peak. (01, Clock)
 unfoldable pub submitted : ℕ → Owner → List ℕ → ℕ → Float → Cap → Float → Flows → Flows
 submitted id owner path bytes latency cap T f =
     let d = on-tally owner (count-submitted bytes) (drain-to T f) in
     made-stale (peak-taken (with-in-flight (placed (submitted-transfer id owner path bytes latency cap T) (d .«in_flight»)) d))
 
--- A transfer starts, with or without a cap of its own.
+-- A transfer starts, with or without a cap of its own. (01, Numbers and Clock)
 unfoldable pub submit-capped : ℕ → Owner → List ℕ → ℕ → Float → Cap → Float → Flows → Outcome
 submit-capped id owner path bytes latency cap T f =
     refusing
@@ -115,56 +115,56 @@ submit-capped id owner path bytes latency cap T f =
     ∷ []) (refused f)
     (answering Done (submitted id owner path bytes (read-zero latency) (read-cap cap) (read-zero T) f))
 
--- A transfer starts without a cap.
+-- A transfer starts without a cap. (01, What is ported)
 unfoldable pub submit : ℕ → Owner → List ℕ → ℕ → Float → Float → Flows → Outcome
 submit id owner path bytes latency T f = submit-capped id owner path bytes latency Uncapped T f
 
 -- ---- advance
 
--- Whether next-done is none or later than T.
+-- Whether next-done is none or later than T. (01, Clock)
 unfoldable pub later-than : Float → NextDone → Bool
 later-than T Nobody = true
 later-than T (At next) = T ≺ next
 
--- Nobody can be done by T, so transfers stay as at the last drain.
+-- Nobody can be done by T, so transfers stay as at the last drain. (01, Clock)
 unfoldable pub quiet : Float → Flows → Bool
 quiet T f = not (f .clock .«rates_dirty») && later-than T (f .clock .«next_done_at»)
 
--- Whether a slot holds a transfer that is done at the simulator's clock.
+-- Whether a slot holds a transfer that is done at the simulator's clock. (01, Clock)
 unfoldable pub done-now : Flows → Transfer → Bool
 done-now f t = t .taken && is-done (done-eps f) t
 
--- A completion put into a list by ascending id.
+-- A completion put into a list by ascending id. (01, Clock)
 unfoldable pub by-id : List Completion → Completion → List Completion
 by-id [] c = c ∷ []
 by-id (d ∷ list) c = let later = d ∷ by-id list c in cond (ltb (c .id) (d .id)) (c ∷ d ∷ list) later
 
--- All that are done, by ascending id.
+-- All that are done, by ascending id. (01, Clock)
 unfoldable pub done-list : Flows → List Completion
 done-list f = foldl by-id [] (map (λ t. record { owner = t .owner; id = t .id }) (those (done-now f) (f .«in_flight»)))
 
--- One more completed.
+-- One more completed. (01, Clock)
 unfoldable pub count-completed : Tally → Tally
 count-completed y = record { submitted = y .submitted; completed = y .completed + 1; cancelled = y .cancelled; «bytes_submitted» = y .«bytes_submitted» }
 
--- One completion counted and put into the queue.
+-- One completion counted and put into the queue. (01, Clock)
 unfoldable pub completed-one : Flows → Completion → Flows
 completed-one f c = on-tally (c .owner) count-completed (queued c f)
 
--- All that are done leave their slots and are queued; if there are any, rates go stale.
+-- All that are done leave their slots and are queued; if there are any, rates go stale. (01, Clock)
 unfoldable pub completed : Flows → List Completion → Flows
 completed f [] = f
 completed f (c ∷ list) =
     let emptied = with-in-flight (map (λ t. cond (done-now f t) free t) (f .«in_flight»)) f in
     made-stale (foldl completed-one emptied (c ∷ list))
 
--- The list is written, or is longer than the buffer; then not even the drain has happened.
+-- The list is written, or is longer than the buffer; then not even the drain has happened. (01, Clock)
 unfoldable pub listing : Flows → List Completion → Flows → List ℕ → Lent
 listing d list f buffer =
     refusing (8 when ltb (length buffer) (3 * length list) ∷ []) (refused-lent f buffer)
     (lent (answering (Listed (length list)) (completed d list)) (write-front (triples list) buffer))
 
--- Time moves to T, and what is done by then is listed, queued and removed.
+-- Time moves to T, and what is done by then is listed, queued and removed. (01, Clock)
 unfoldable pub advance : Float → Flows → List ℕ → Lent
 advance T f buffer =
     let until = read-zero T in
@@ -179,20 +179,20 @@ advance T f buffer =
 
 -- ---- cancel
 
--- One more cancelled.
+-- One more cancelled. (01, Clock)
 unfoldable pub count-cancelled : Tally → Tally
 count-cancelled y = record { submitted = y .submitted; completed = y .completed; cancelled = y .cancelled + 1; «bytes_submitted» = y .«bytes_submitted» }
 
--- The owner of the transfer with that id.
+-- The owner of the transfer with that id. (01, Clock)
 unfoldable pub owner-of : ℕ → List Transfer → Owner
 owner-of id slots = of-id id (free .owner) (λ t. t .owner) slots
 
--- Drained to the clock, then counted and removed.
+-- Drained to the clock, then counted and removed. (01, Clock)
 unfoldable pub cancelled : ℕ → Flows → Flows
 cancelled id f =
     let d = on-tally (owner-of id (f .«in_flight»)) count-cancelled (drained-to-clock f) in
     made-stale (with-in-flight (map (λ t. cond (has-id id t) free t) (d .«in_flight»)) d)
 
--- A transfer is given up; what it moved stays counted.
+-- A transfer is given up; what it moved stays counted. (01, Clock)
 unfoldable pub cancel : ℕ → Flows → Outcome
 cancel id f = cond (contains id f) (answering Done (cancelled id f)) (answering Unknown f)

@@ -230,6 +230,18 @@ both-sides =
     ∷ submit 6 (Worker 0) [] 1 nought Uncapped (nearest (2 ^ 53 - 1) (2 ^ 53)) gives said (Refused 2)
     ∷ []
 
+-- A rate is taken off an edge once for each crossing: two less three thirds, one after another, is not quite one. (01, Slips)
+abbrev pub crossing-by-crossing : List Step
+crossing-by-crossing =
+    new-edge 0 1
+    ∷ new-edge 1 2
+    ∷ sent 1 (0 ∷ 1 ∷ []) 100 0 Uncapped
+    ∷ sent 2 (0 ∷ 1 ∷ []) 100 0 Uncapped
+    ∷ sent 3 (0 ∷ 1 ∷ []) 100 0 Uncapped
+    ∷ sent 4 (1 ∷ []) 100 0 Uncapped
+    ∷ rate 4 gives said (Value (nearest (2 ^ 52 + 1) (2 ^ 52)))
+    ∷ []
+
 -- Where several refusals apply the lowest is answered. (01, Numbers)
 abbrev pub lowest-first : List Step
 lowest-first =

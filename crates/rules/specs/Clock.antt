@@ -19,20 +19,20 @@ use Rattle.rules.specs.Filling.{Filling, recompute-rates}
 
 -- ---- bring up to date
 
--- The smallest time to done of all in flight.
+-- The smallest time to done of all in flight. (01, Clock)
 unfoldable pub soonest : Float → List Transfer → Delay
 soonest eps slots = foldl (λ d t. cond (t .taken) (sooner d (time-to-done eps t)) d) Never slots
 
--- The clock time that lies a delay ahead.
+-- The clock time that lies a delay ahead. (01, Clock)
 unfoldable pub ahead : Float → Delay → NextDone
 ahead now Never = Nobody
 ahead now (After d) = At (now ⊕ d)
 
--- The crossings of each edge by all in flight, and how many edges there are.
+-- The crossings of each edge by all in flight, and how many edges there are. (01, Clock)
 unfoldable pub edge-loads : Flows → EdgeLoad
 edge-loads f = record { load = map-from 0 (λ e edge. crossings-by counts-in-loads (path-of f) (f .«in_flight») e) (f .edges); len = f .«num_edges» }
 
--- The simulator with rates as a filling gave them, and what follows from them.
+-- The simulator with rates as a filling gave them, and what follows from them. (01, Clock)
 unfoldable pub with-rates : Filling → Flows → Flows
 with-rates filling f =
     let g = with-edge-load (edge-loads f) (with-in-flight (map (λ s. s .transfer) (filling .seats)) f) in
@@ -43,29 +43,29 @@ with-rates filling f =
       rounds = filling .rounds;
     }) g
 
--- Rates brought up to date: a filling where they are stale, and otherwise nothing.
+-- Rates brought up to date: a filling where they are stale, and otherwise nothing. (01, Clock)
 unfoldable pub ensure-rates : Flows → Flows
 ensure-rates f = cond (f .clock .«rates_dirty») (with-rates (recompute-rates (path-of f) (f .edges) (f .«in_flight»)) f) f
 
 -- ---- one transfer drained to the time T
 
--- What the latency takes of the time since the transfer's last drain.
+-- What the latency takes of the time since the transfer's last drain. (01, Clock)
 unfoldable pub latency-paid : Float → Transfer → Float
 latency-paid T t = smaller (t .«latency_remaining») (T ⊖ t .«last_update»)
 
--- The time that is left for bytes to flow.
+-- The time that is left for bytes to flow. (01, Clock)
 unfoldable pub flowing-time : Float → Transfer → Float
 flowing-time T t = T ⊖ t .«last_update» ⊖ latency-paid T t
 
--- Whether the transfer moves bytes in the drain.
+-- Whether the transfer moves bytes in the drain. (01, Clock)
 unfoldable pub moves : Float → Transfer → Bool
 moves T t = t .taken && (nought ≺ flowing-time T t && (nought ≺ t .rate && nought ≺ t .«bytes_remaining»))
 
--- The bytes that flow in that time, no more than are left.
+-- The bytes that flow in that time, no more than are left. (01, Clock)
 unfoldable pub bytes-flowing : Float → Transfer → Float
 bytes-flowing T t = smaller (t .rate ⊗ flowing-time T t) (t .«bytes_remaining»)
 
--- The transfer after the drain; a free slot stays as it is.
+-- The transfer after the drain; a free slot stays as it is. (01, Clock)
 unfoldable pub drained : Float → Transfer → Transfer
 drained T t =
     cond (t .taken)
@@ -84,34 +84,34 @@ drained T t =
 
 -- ---- the edges
 
--- Some bytes more have crossed an edge.
+-- Some bytes more have crossed an edge. (01, Clock)
 unfoldable pub gain-moved : Float → Edge → Edge
 gain-moved moved e = record { capacity = e .capacity; «bytes_moved» = e .«bytes_moved» ⊕ moved; «busy_transfer_seconds» = e .«busy_transfer_seconds» }
 
--- What a transfer moves is added to the edges on its path, once for each crossing.
+-- What a transfer moves is added to the edges on its path, once for each crossing. (01, Clock)
 unfoldable pub deliver : (Transfer → List ℕ) → Float → List Edge → Transfer → List Edge
 deliver path T edges t = cond (moves T t) (at-each-crossing (path t) (gain-moved (bytes-flowing T t)) edges) edges
 
--- The load integral of an edge with some crossings grows by crossings times the time that passed; of another it stays.
+-- The load integral of an edge with some crossings grows by crossings times the time that passed; of another it stays. (01, Clock)
 unfoldable pub gain-busy : Float → ℕ → Edge → Edge
 gain-busy dt zero e = e
 gain-busy dt (suc n) e = record { capacity = e .capacity; «bytes_moved» = e .«bytes_moved»; «busy_transfer_seconds» = e .«busy_transfer_seconds» ⊕ whole (suc n) ⊗ dt }
 
 -- ---- the simulator
 
--- Time passes to T: load integrals grow by the crossings of all in flight, and the clock moves.
+-- Time passes to T: load integrals grow by the crossings of all in flight, and the clock moves. (01, Clock)
 unfoldable pub pass-time : Float → Flows → Flows
 pass-time T f =
     let dt = T ⊖ f .clock .now in
     let busy = map-from 0 (λ e edge. gain-busy dt (crossings-by counts-in-loads (path-of f) (f .«in_flight») e) edge) (f .edges) in
     at-time T (cond (nought ≺ dt) (with-edges busy (f .«num_edges») f) f)
 
--- All slots drained to T, in order, and the edges credited.
+-- All slots drained to T, in order, and the edges credited. (01, Clock)
 unfoldable pub drain-slots : Float → Flows → Flows
 drain-slots T f =
     with-in-flight (map (drained T) (f .«in_flight»))
     (with-edges (foldl (deliver (path-of f) T) (f .edges) (f .«in_flight»)) (f .«num_edges») f)
 
--- Drain to T: rates first, where T is past the clock; then the slots; then time passes.
+-- Drain to T: rates first, where T is past the clock; then the slots; then time passes. (01, Clock)
 unfoldable pub drain-to : Float → Flows → Flows
 drain-to T f = pass-time T (drain-slots T (cond (f .clock .now ≺ T) (ensure-rates f) f))

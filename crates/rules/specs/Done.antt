@@ -8,15 +8,15 @@ use Rattle.rules.specs.declared.Transfer.{Transfer}
 use Rattle.rules.specs.declared.Flows.{Flows}
 use Rattle.rules.specs.Tolerance.{B, eps}
 
--- The seconds that count as none at a simulator's clock.
+-- The seconds that count as none at a simulator's clock. (01, Tolerance)
 unfoldable pub done-eps : Flows → Float
 done-eps f = eps (f .tolerance) (f .clock .now)
 
--- A transfer is done: its latency is paid within eps, and so are its bytes, for they count as none or would be gone within eps.
+-- A transfer is done: its latency is paid within eps, and so are its bytes, for they count as none or would be gone within eps. (01, Tolerance)
 unfoldable pub is-done : Float → Transfer → Bool
 is-done eps t = t .«latency_remaining» ≼ eps && (t .«bytes_remaining» ≼ B || nought ≺ t .rate && t .«bytes_remaining» ⊘ t .rate ≼ eps)
 
--- The time until a transfer is done at its rate: no time if it is, else its latency, with the time for its bytes where they count.
+-- The time until a transfer is done at its rate: no time if it is, else its latency, with the time for its bytes where they count. (01, Tolerance)
 unfoldable pub time-to-done : Float → Transfer → Delay
 time-to-done eps t =
     cond (is-done eps t) (After nought)
@@ -24,7 +24,7 @@ time-to-done eps t =
     (cond (nought ≺ t .rate) (After (t .«latency_remaining» ⊕ t .«bytes_remaining» ⊘ t .rate))
     Never))
 
--- The earlier of two delays; the first at equality.
+-- The earlier of two delays; the first at equality. (01, Tolerance)
 unfoldable pub sooner : Delay → Delay → Delay
 sooner Never d = d
 sooner (After a) Never = After a

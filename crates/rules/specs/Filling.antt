@@ -18,7 +18,7 @@ use Rattle.rules.specs.declared.Verdict.the-variants.{ByCap, ByEdge, ByN
 use Rattle.rules.specs.Lists.{count, any, times, map-from, sum, crossings}
 use Rattle.rules.specs.Records.{takes-part}
 
--- A filling under way: the slots, what is left of each edge's capacity, and the rounds so far.
+-- A filling under way: the slots, what is left of each edge's capacity, and the rounds so far. (01, Filling)
 pub record Filling : Type 0 where
   pub seats : List Seat
   pub residual : List Float
@@ -26,50 +26,50 @@ pub record Filling : Type 0 where
 
 -- ---- the smallest of some candidates
 
--- The first of two, unless the second is strictly smaller.
+-- The first of two, unless the second is strictly smaller. (01, Filling)
 unfoldable pub tighter : Best → Best → Best
 tighter Nobody b = b
 tighter (At i x) Nobody = At i x
 tighter (At i x) (At j y) = cond (y ≺ x) (At j y) (At i x)
 
--- The smallest of some candidates, and at equality the earliest.
+-- The smallest of some candidates, and at equality the earliest. (01, Filling)
 unfoldable pub tightest : List Best → Best
 tightest candidates = foldl tighter Nobody candidates
 
 -- ---- who takes part
 
--- A transfer at another rate.
+-- A transfer at another rate. (01, Filling)
 unfoldable pub with-rate : Float → Transfer → Transfer
 with-rate rate t = record { taken = t .taken; id = t .id; owner = t .owner; path = t .path; «latency_remaining» = t .«latency_remaining»; «bytes_remaining» = t .«bytes_remaining»; «rate_cap» = t .«rate_cap»; rate = rate; «last_update» = t .«last_update» }
 
--- The rate of a transfer that shares no edge: its cap, or no limit at all.
+-- The rate of a transfer that shares no edge: its cap, or no limit at all. (01, Filling)
 unfoldable pub lone-rate : Cap → Float
 lone-rate (AtMost c) = c
 lone-rate Uncapped = infinity
 
--- A transfer that takes part starts unfrozen, unless its path is empty and its rate is known at once.
+-- A transfer that takes part starts unfrozen, unless its path is empty and its rate is known at once. (01, Filling)
 unfoldable pub entered : List ℕ → Transfer → Seat
 entered [] t = record { transfer = with-rate (lone-rate (t .«rate_cap»)) t; unfrozen = false }
 entered (e ∷ path) t = record { transfer = t; unfrozen = true }
 
 -- ---- what a round decides
 
--- The share of edge e: what is left of its capacity over its load, if it has one.
+-- The share of edge e: what is left of its capacity over its load, if it has one. (01, Filling)
 unfoldable pub share : ℕ → Float → ℕ → Best
 share e residual zero = Nobody
 share e residual (suc n) = At e (residual ⊘ whole (suc n))
 
--- The cap of the transfer in slot i, if it is unfrozen and has one.
+-- The cap of the transfer in slot i, if it is unfrozen and has one. (01, Filling)
 unfoldable pub own-cap : ℕ → Bool → Cap → Best
 own-cap i false cap = Nobody
 own-cap i true Uncapped = Nobody
 own-cap i true (AtMost c) = At i c
 
--- The smallest cap among the unfrozen, the lowest slot at equality.
+-- The smallest cap among the unfrozen, the lowest slot at equality. (01, Filling)
 unfoldable pub smallest-cap : Filling → Best
 smallest-cap f = tightest (map-from 0 (λ i s. own-cap i (s .unfrozen) (s .transfer .«rate_cap»)) (f .seats))
 
--- The smallest cap wins over the smallest share only where it is strictly below it.
+-- The smallest cap wins over the smallest share only where it is strictly below it. (01, Filling)
 unfoldable pub verdict : Best → Best → Verdict
 verdict Nobody Nobody = ByNobody
 verdict Nobody (At e x) = ByEdge e x
@@ -78,61 +78,61 @@ verdict (At i c) (At e x) = cond (c ≺ x) (ByCap i c) (ByEdge e x)
 
 -- ---- what a verdict says
 
--- The rate that a verdict gives.
+-- The rate that a verdict gives. (01, Filling)
 unfoldable pub rate-by : Verdict → Float
 rate-by (ByCap i c) = c
 rate-by (ByEdge e x) = x
 rate-by ByNobody = nought
 
--- Whether a verdict names the transfer in slot i on that path: the slot itself, or all that cross the edge.
+-- Whether a verdict names the transfer in slot i on that path: the slot itself, or all that cross the edge. (01, Filling)
 unfoldable pub names : Verdict → ℕ → List ℕ → Bool
 names (ByCap j c) i p = eqb i j
 names (ByEdge e x) i p = any (eqb e) p
 names ByNobody i p = false
 
--- What one crossing at a rate leaves of an edge, never below 0.
+-- What one crossing at a rate leaves of an edge, never below 0. (01, Filling)
 unfoldable pub spend : Float → Float → Float
 spend rate residual = larger (residual ⊖ rate) nought
 
 -- ---- the whole
 
--- How many have yet to be frozen.
+-- How many have yet to be frozen. (01, Filling)
 unfoldable pub num-unfrozen : Filling → ℕ
 num-unfrozen f = count (λ s. s .unfrozen) (f .seats)
 
 -- What follows takes the way to read a transfer's path.
 module _ (path : Transfer → List ℕ) where
-  -- A slot as the filling begins: who takes no part keeps the rate it had.
+  -- A slot as the filling begins: who takes no part keeps the rate it had. (01, Filling)
   unfoldable pub seat : Transfer → Seat
   seat t = cond (takes-part t) (entered (path t) t) (record { transfer = t; unfrozen = false })
 
-  -- The filling as it begins: all of each capacity is left.
+  -- The filling as it begins: all of each capacity is left. (01, Filling)
   unfoldable pub start : List Edge → List Transfer → Filling
   start edges slots = record { seats = map seat slots; residual = map (λ e. e .capacity) edges; rounds = 0 }
 
   -- ---- a round
 
-  -- An edge's load: its crossings by unfrozen transfers, repeats counted.
+  -- An edge's load: its crossings by unfrozen transfers, repeats counted. (01, Filling)
   unfoldable pub load : List Seat → ℕ → ℕ
   load seats e = sum (map (λ s. cond (s .unfrozen) (crossings e (path (s .transfer))) 0) seats)
 
-  -- The edge with the smallest share, the lowest number at equality.
+  -- The edge with the smallest share, the lowest number at equality. (01, Filling)
   unfoldable pub winning-edge : Filling → Best
   winning-edge f = tightest (map-from 0 (λ e r. share e r (load (f .seats) e)) (f .residual))
 
-  -- Whether a verdict freezes the seat in slot i.
+  -- Whether a verdict freezes the seat in slot i. (01, Filling)
   unfoldable pub freezes : Verdict → ℕ → Seat → Bool
   freezes v i s = s .unfrozen && names v i (path (s .transfer))
 
-  -- A seat after the verdict: frozen at its rate, or as it was.
+  -- A seat after the verdict: frozen at its rate, or as it was. (01, Filling)
   unfoldable pub freeze : Verdict → ℕ → Seat → Seat
   freeze v i s = cond (freezes v i s) (record { transfer = with-rate (rate-by v) (s .transfer); unfrozen = false }) s
 
-  -- The crossings of edge e by those that the verdict freezes.
+  -- The crossings of edge e by those that the verdict freezes. (01, Filling)
   unfoldable pub crossings-frozen : Verdict → List Seat → ℕ → ℕ
   crossings-frozen v seats e = sum (map-from 0 (λ i s. cond (freezes v i s) (crossings e (path (s .transfer))) 0) seats)
 
-  -- One round: the verdict, those it names frozen, and each edge less their rate once for each of their crossings.
+  -- One round: the verdict, those it names frozen, and each edge less their rate once for each of their crossings. (01, Filling)
   unfoldable pub round : Filling → Filling
   round f =
       let v = verdict (smallest-cap f) (winning-edge f) in
@@ -144,11 +144,11 @@ module _ (path : Transfer → List ℕ) where
 
   -- ---- the rounds
 
-  -- Rounds until none is unfrozen, n of them at the most.
+  -- Rounds until none is unfrozen, n of them at the most. (01, Filling)
   unfoldable pub rounds-until : ℕ → Filling → Filling
   rounds-until zero f = f
   rounds-until (suc n) f = let more = rounds-until n (round f) in cond (eqb (num-unfrozen f) 0) f more
 
-  -- The whole filling. Each round freezes somebody, so one round for each of them is enough.
+  -- The whole filling. Each round freezes somebody, so one round for each of them is enough. (01, Filling)
   unfoldable pub recompute-rates : List Edge → List Transfer → Filling
   recompute-rates edges slots = let f = start edges slots in rounds-until (num-unfrozen f) f

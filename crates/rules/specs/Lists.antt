@@ -33,7 +33,7 @@ module _ {A : Type 0} where
   update zero f (x ∷ xs) = f x ∷ xs
   update (suc n) f (x ∷ xs) = x ∷ update n f xs
 
-  -- The elements that a path names, put through f in the path's order, once for each crossing.
+  -- The elements that a path names, put through f in the path's order, once for each crossing. (01, Clock)
   unfoldable pub at-each-crossing : List ℕ → (A → A) → List A → List A
   at-each-crossing [] f xs = xs
   at-each-crossing (e ∷ path) f xs = at-each-crossing path f (update e f xs)
@@ -43,7 +43,7 @@ module _ {A : Type 0} where
   times zero f x = x
   times (suc n) f x = f (times n f x)
 
-  -- A lent buffer with `written` at its front; the later places keep what they held.
+  -- A lent buffer with `written` at its front; the later places keep what they held. (01, Clock)
   unfoldable pub write-front : List A → List A → List A
   write-front written buffer = written ++ drop (length written) buffer
 
@@ -62,6 +62,6 @@ unfoldable pub sum : List ℕ → ℕ
 sum [] = 0
 sum (n ∷ ns) = n + sum ns
 
--- How often a path crosses edge e, repeats counted.
+-- How often a path crosses edge e, repeats counted. (01, Filling)
 unfoldable pub crossings : ℕ → List ℕ → ℕ
 crossings e path = count (eqb e) path

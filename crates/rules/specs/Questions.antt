@@ -28,45 +28,45 @@ use Rattle.rules.specs.Calls.{drained-to-clock}
 
 -- ---- the next completion
 
--- How far ahead of the clock next-done lies; one that is past is now.
+-- How far ahead of the clock next-done lies; one that is past is now. (01, Questions)
 unfoldable pub until : Float → NextDone → Delay
 until now Nobody = Never
 until now (At next) = After (larger (next ⊖ now) nought)
 
--- The time to the next completion under rates brought up to date.
+-- The time to the next completion under rates brought up to date. (01, Questions)
 unfoldable pub next-completion-delay : Flows → Outcome
 next-completion-delay f = let g = ensure-rates f in answering (Wait (until (g .clock .now) (g .clock .«next_done_at»))) g
 
 -- ---- estimates
 
--- What one more transfer would get of edge e: its capacity over the crossings of those that take part, and one.
+-- What one more transfer would get of edge e: its capacity over the crossings of those that take part, and one. (01, Questions)
 unfoldable pub new-share : Flows → ℕ → Float
 new-share f e = getD (f .edges) e no-edge .capacity ⊘ whole (crossings-by takes-part (path-of f) (f .«in_flight») e + 1)
 
--- The smallest such share along a path.
+-- The smallest such share along a path. (01, Questions)
 unfoldable pub path-share : Flows → List ℕ → Float
 path-share f path = foldl (λ least e. smaller least (new-share f e)) infinity path
 
--- A share, or the cap if that is smaller.
+-- A share, or the cap if that is smaller. (01, Questions)
 unfoldable pub capped : Cap → Float → Float
 capped Uncapped share = share
 capped (AtMost c) share = smaller share c
 
--- The time over shared edges: endless where the share is nothing or endless itself.
+-- The time over shared edges: endless where the share is nothing or endless itself. (01, Questions)
 unfoldable pub time-at-share : Float → Float → Float → Float
 time-at-share latency bytes share = cond (share ≼ nought || not (is-finite share)) infinity (latency ⊕ bytes ⊘ share)
 
--- The time where no edge is shared: only a cap above 0 makes bytes take time.
+-- The time where no edge is shared: only a cap above 0 makes bytes take time. (01, Questions)
 unfoldable pub time-alone : Float → Float → Cap → Float
 time-alone latency bytes Uncapped = latency
 time-alone latency bytes (AtMost c) = cond (nought ≺ c) (latency ⊕ bytes ⊘ c) latency
 
--- The time by whether the path shares edges.
+-- The time by whether the path shares edges. (01, Questions)
 unfoldable pub estimate : Flows → List ℕ → Float → Float → Cap → Float
 estimate f [] bytes latency cap = time-alone latency bytes cap
 estimate f (e ∷ path) bytes latency cap = time-at-share latency bytes (capped cap (path-share f (e ∷ path)))
 
--- The time that one more transfer would need as things stand; bytes left are as at the last drain.
+-- The time that one more transfer would need as things stand; bytes left are as at the last drain. (01, Questions)
 unfoldable pub estimate-new-capped : List ℕ → Float → Float → Cap → Flows → Answer
 estimate-new-capped path bytes latency cap f =
     refusing
@@ -76,34 +76,34 @@ estimate-new-capped path bytes latency cap f =
     ∷ []) Refused
     (Value (estimate f path (read-zero bytes) (larger (read-zero latency) nought) (read-cap cap)))
 
--- The same without a cap.
+-- The same without a cap. (01, Questions)
 unfoldable pub estimate-new : List ℕ → Float → Float → Flows → Answer
 estimate-new path bytes latency f = estimate-new-capped path bytes latency Uncapped f
 
--- A time that never comes is told as 0.
+-- A time that never comes is told as 0. (01, Questions)
 unfoldable pub or-nought : Delay → Float
 or-nought (After d) = d
 or-nought Never = nought
 
--- The time to done of the transfer with that id, and 0 where there is none.
+-- The time to done of the transfer with that id, and 0 where there is none. (01, Questions)
 unfoldable pub remaining : ℕ → Float → List Transfer → Float
 remaining id eps slots = of-id id nought (λ t. or-nought (time-to-done eps t)) slots
 
--- The time a transfer still takes, drained to the clock and with rates up to date.
+-- The time a transfer still takes, drained to the clock and with rates up to date. (01, Questions)
 unfoldable pub estimate-remaining : ℕ → Flows → Outcome
 estimate-remaining id f = let g = ensure-rates (drained-to-clock f) in answering (Value (remaining id (done-eps g) (g .«in_flight»))) g
 
 -- ---- edges
 
--- An edge by its number.
+-- An edge by its number. (01, What is ported)
 unfoldable pub edge : ℕ → Flows → EdgeRead
 edge e f = refusing (3 when no-such-edge f e ∷ []) EdgeRead-variants.Refused (EdgeRead-variants.Found (getD (f .edges) e no-edge))
 
--- The mean of an edge's load from 0 to a time.
+-- The mean of an edge's load from 0 to a time. (01, Questions)
 unfoldable pub mean-over : Float → Edge → Float
 mean-over until e = cond (nought ≺ until) (e .«busy_transfer_seconds» ⊘ until) nought
 
--- The mean of an edge's load, by its number.
+-- The mean of an edge's load, by its number. (01, Questions)
 unfoldable pub mean-in-flight : ℕ → Float → Flows → Answer
 mean-in-flight e until f =
     refusing
@@ -114,10 +114,10 @@ mean-in-flight e until f =
 
 -- ---- rates
 
--- The rate of the transfer with that id, or that there is none.
+-- The rate of the transfer with that id, or that there is none. (01, Questions)
 unfoldable pub rate-in : ℕ → List Transfer → Answer
 rate-in id slots = of-id id Unknown (λ t. Value (t .rate)) slots
 
--- A transfer's rate, brought up to date.
+-- A transfer's rate, brought up to date. (01, Questions)
 unfoldable pub rate : ℕ → Flows → Outcome
 rate id f = let g = ensure-rates f in answering (rate-in id (g .«in_flight»)) g

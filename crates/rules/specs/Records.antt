@@ -24,29 +24,29 @@ use Rattle.rules.specs.Tolerance.{B, default-tolerance}
 
 -- ---- sizes
 
--- The most edges there can be.
+-- The most edges there can be. (01, Sizes)
 abbrev pub max-edges : ℕ
 max-edges = 64
 
--- The most edges in a path, repeats counted.
+-- The most edges in a path, repeats counted. (01, Sizes)
 abbrev pub max-path : ℕ
 max-path = 8
 
--- The most transfers in flight and uncollected completions together.
+-- The most transfers in flight and uncollected completions together. (01, Sizes)
 abbrev pub max-slots : ℕ
 max-slots = 256
 
 -- ---- blanks: what a place holds that nobody uses
 
--- A place of the edge table beyond the last edge.
+-- A place of the edge table beyond the last edge. (01, Sizes)
 abbrev pub no-edge : Edge
 no-edge = record { capacity = nought; «bytes_moved» = nought; «busy_transfer_seconds» = nought }
 
--- A path in its eight places, zeros behind it.
+-- A path in its eight places, zeros behind it. (01, Sizes)
 unfoldable pub route : List ℕ → Route
 route path = record { hops = path ++ replicate (max-path - length path) 0; len = length path }
 
--- A free slot.
+-- A free slot. (01, Sizes)
 abbrev pub free : Transfer
 free = record {
   taken = false;
@@ -60,15 +60,15 @@ free = record {
   «last_update» = nought;
 }
 
--- A place of the queue beyond the last entry.
+-- A place of the queue beyond the last entry. (01, Sizes)
 abbrev pub no-completion : Completion
 no-completion = record { owner = Handoff; id = 0 }
 
--- Nothing counted yet.
+-- Nothing counted yet. (01, Sizes)
 abbrev pub no-tally : Tally
 no-tally = record { submitted = 0; completed = 0; cancelled = 0; «bytes_submitted» = nought }
 
--- The simulator before any call.
+-- The simulator before any call. (01, Sizes)
 abbrev pub fresh : Flows
 fresh = record {
   edges = replicate max-edges no-edge;
@@ -84,11 +84,11 @@ fresh = record {
 
 -- ---- transfers as read
 
--- The edges that a transfer crosses, in order.
+-- The edges that a transfer crosses, in order. (01, Sizes)
 unfoldable pub own-path : Transfer → List ℕ
 own-path t = take (t .path .len) (t .path .hops)
 
--- A simulator's way to read a transfer's path. (Every rule takes paths through this one reading.)
+-- A simulator's way to read a transfer's path. (Every rule takes paths through this one reading.) (01, Sizes)
 abbrev pub path-of : Flows → Transfer → List ℕ
 path-of f = own-path
 
@@ -100,30 +100,30 @@ counts-in-loads t = t .taken
 unfoldable pub takes-part : Transfer → Bool
 takes-part t = t .taken && B ≺ t .«bytes_remaining»
 
--- Whether a slot holds the transfer with that id.
+-- Whether a slot holds the transfer with that id. (01, Sizes)
 unfoldable pub has-id : ℕ → Transfer → Bool
 has-id id t = t .taken && eqb (t .id) id
 
--- What `some` gives of the transfer with that id, and `none` where no slot holds one.
+-- What `some` gives of the transfer with that id, and `none` where no slot holds one. (01, Sizes)
 unfoldable pub of-id : {A : Type 0} → ℕ → A → (Transfer → A) → List Transfer → A
 of-id id none some [] = none
 of-id id none some (t ∷ slots) = let past = of-id id none some slots in cond (has-id id t) (some t) past
 
--- The crossings of edge e by the transfers that pass a test.
+-- The crossings of edge e by the transfers that pass a test. (01, Filling)
 unfoldable pub crossings-by : (Transfer → Bool) → (Transfer → List ℕ) → List Transfer → ℕ → ℕ
 crossings-by p path slots e = sum (map (λ t. cond (p t) (crossings e (path t)) 0) slots)
 
 -- ---- the simulator as read
 
--- Whether a transfer with that id is in flight.
+-- Whether a transfer with that id is in flight. (01, Numbers)
 unfoldable pub contains : ℕ → Flows → Bool
 contains id f = any (has-id id) (f .«in_flight»)
 
--- How many transfers are in flight.
+-- How many transfers are in flight. (01, Numbers)
 unfoldable pub num-in-flight : Flows → ℕ
 num-in-flight f = count (λ t. t .taken) (f .«in_flight»)
 
--- The completions that wait to be collected, in order of owner and id.
+-- The completions that wait to be collected, in order of owner and id. (01, Clock)
 unfoldable pub waiting : Flows → List Completion
 waiting f = take (f .«num_completed») (f .completed)
 
@@ -141,7 +141,7 @@ owner-worker (Worker n) = n
 owner-worker Handoff = 0
 owner-worker Write = 0
 
--- Whether two owners are one.
+-- Whether two owners are one. (01, What is ported)
 unfoldable pub same-owner : Owner → Owner → Bool
 same-owner a b = eqb (owner-kind a) (owner-kind b) && eqb (owner-worker a) (owner-worker b)
 
@@ -149,11 +149,11 @@ same-owner a b = eqb (owner-kind a) (owner-kind b) && eqb (owner-worker a) (owne
 unfoldable pub owner-before : Owner → Owner → Bool
 owner-before a b = ltb (owner-kind a) (owner-kind b) || eqb (owner-kind a) (owner-kind b) && ltb (owner-worker a) (owner-worker b)
 
--- The order of completions: by owner, then by ascending id.
+-- The order of completions: by owner, then by ascending id. (01, Clock)
 unfoldable pub before : Completion → Completion → Bool
 before c d = owner-before (c .owner) (d .owner) || same-owner (c .owner) (d .owner) && ltb (c .id) (d .id)
 
--- What has been counted of an owner's kind.
+-- What has been counted of an owner's kind. (01, Clock)
 unfoldable pub tally-of : Owner → Totals → Tally
 tally-of (Worker n) totals = totals .worker
 tally-of Handoff totals = totals .handoff
@@ -185,7 +185,7 @@ with-clock clock f = record { edges = f .edges; «num_edges» = f .«num_edges»
 unfoldable pub with-totals : Totals → Flows → Flows
 with-totals totals f = record { edges = f .edges; «num_edges» = f .«num_edges»; «in_flight» = f .«in_flight»; completed = f .completed; «num_completed» = f .«num_completed»; «edge_load» = f .«edge_load»; clock = f .clock; totals = totals; tolerance = f .tolerance }
 
--- The clock moved to another time.
+-- The clock moved to another time. (01, Clock)
 unfoldable pub at-time : Float → Flows → Flows
 at-time T f = with-clock (record { now = T; «rates_dirty» = f .clock .«rates_dirty»; «next_done_at» = f .clock .«next_done_at»; rounds = f .clock .rounds }) f
 
@@ -193,7 +193,7 @@ at-time T f = with-clock (record { now = T; «rates_dirty» = f .clock .«rates_
 unfoldable pub made-stale : Flows → Flows
 made-stale f = with-clock (record { now = f .clock .now; «rates_dirty» = true; «next_done_at» = f .clock .«next_done_at»; rounds = f .clock .rounds }) f
 
--- The tally of an owner's kind put through `change`.
+-- The tally of an owner's kind put through `change`. (01, Clock)
 unfoldable pub on-tally : Owner → (Tally → Tally) → Flows → Flows
 on-tally (Worker n) change f = with-totals (record { «peak_in_flight» = f .totals .«peak_in_flight»; worker = change (f .totals .worker); handoff = f .totals .handoff; write = f .totals .write }) f
 on-tally Handoff change f = with-totals (record { «peak_in_flight» = f .totals .«peak_in_flight»; worker = f .totals .worker; handoff = change (f .totals .handoff); write = f .totals .write }) f

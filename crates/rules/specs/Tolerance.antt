@@ -4,18 +4,18 @@ use lib.Ieee.{Float}
 use Rattle.doubles.specs.Doubles.{_⊗_, larger, nearest, whole}
 use Rattle.rules.specs.declared.Tolerance.{Tolerance}
 
--- Bytes left that count as none: the double nearest a millionth.
+-- Bytes left that count as none: the double nearest a millionth. (01, Tolerance)
 abbrev pub B : Float
 B = nearest 1 1000000
 
--- Seconds that count as none at any clock: the double nearest a millionth of a millionth.
+-- Seconds that count as none at any clock: the double nearest a millionth of a millionth. (01, Tolerance)
 abbrev pub F : Float
 F = nearest 1 1000000000000
 
--- The tolerance of every simulator so far.
+-- The tolerance of every simulator so far. (01, Tolerance)
 abbrev pub default-tolerance : Tolerance
 default-tolerance = record { floor = F }
 
--- Seconds that count as none at a clock time: four steps of a double at the clock, and never less than the floor.
+-- Seconds that count as none at a clock time: four steps of a double at the clock, and never less than the floor. (01, Tolerance)
 unfoldable pub eps : Tolerance → Float → Float
 eps tolerance clock = larger (clock ⊗ whole 4 ⊗ nearest 1 (2 ^ 52)) (tolerance .floor)

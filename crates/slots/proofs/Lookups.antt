@@ -2,17 +2,13 @@
 use mathlib.Core.Path.{_≡_, refl, sym, ap, _∙_}
 use mathlib.Core.Bool.{Bool, true, false, cond}
 use mathlib.Core.List.{List, [], _∷_}
-use Prim.Native.Nat.{ℕ, zero, suc, _+_, _<_}
+use Prim.Native.Nat.{ℕ, suc, _+_, _<_}
 use native.Mathlib.Numerals.{add-one}
-use native.Mathlib.Nat.{le-of-suc-le-suc}
-use native.Mathlib.Omega.{arith}
 use lib.ListN.{length, drop, getD, set}
 use Rattle.rules.specs.declared.Transfer.{Transfer}
-use Rattle.rules.specs.Lists.{count}
 use Rattle.rules.specs.Records.{has-id}
 use Rattle.rules.specs.Calls.{placed}
 use Rattle.rules.proofs.Steps.{drop-one}
-use Rattle.slots.specs.declared.Lookup.{Lookup}
 use Rattle.slots.specs.declared.Lookup.the-variants.{Slot}
 use Rattle.slots.specs.Lookup.{lookup-from, first-free}
 

@@ -2,7 +2,7 @@
 use borrow.Author.Needs.{needs}
 use Rattle.rules.specs.Records.{with-edges, with-in-flight}
 use Rattle.rules.specs.Clock.{drain-slots}
-use Rattle.transfers.proofs.Routes.{all-routes}
+use Rattle.rules.proofs.Routes.{all-routes}
 use Rattle.clock.proofs.drain_slots.Statement.{statement}
 use Rattle.clock.proofs.drain_slots.Tie as tie
 

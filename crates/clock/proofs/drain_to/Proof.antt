@@ -1,10 +1,10 @@
 -- `drain_to` takes the loads before the slots are drained, and draining does not change them. Assumes nothing.
 use borrow.Author.Needs.{needs}
-use mathlib.Core.Path.{_≡_, _∙_}
+use mathlib.Core.Path.{_∙_}
 use Rattle.clock.proofs.Busy.{drained-places, drained-loads}
 use Rattle.clock.proofs.Kept.{drain-kept}
 use Rattle.rules.specs.Clock.{drain-to}
-use Rattle.transfers.proofs.Routes.{all-routes, all-room}
+use Rattle.rules.proofs.Routes.{all-routes, all-room}
 use Rattle.clock.proofs.drain_to.Statement.{statement}
 use Rattle.clock.proofs.drain_to.Tie as tie
 

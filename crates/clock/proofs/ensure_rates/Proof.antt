@@ -1,12 +1,11 @@
 -- `ensure_rates` fills where rates are stale, and what follows from the rates is worked out from the filled slots; the loads are those of the slots as they were. Assumes nothing.
 use borrow.Author.Needs.{needs}
-use mathlib.Core.Path.{_≡_}
 use Rattle.clock.proofs.Kept.{rates-kept, load-kept}
 use Rattle.filling.proofs.Fillable.{fillable}
 use Rattle.rules.specs.Clock.{ensure-rates, with-rates, edge-loads}
 use Rattle.rules.specs.Done.{done-eps}
 use Rattle.rules.specs.Records.{with-in-flight, with-edge-load, with-clock}
-use Rattle.transfers.proofs.Routes.{all-routes, all-room}
+use Rattle.rules.proofs.Routes.{all-routes, all-room}
 use Rattle.clock.proofs.ensure_rates.Statement.{statement}
 use Rattle.clock.proofs.ensure_rates.Tie as tie
 

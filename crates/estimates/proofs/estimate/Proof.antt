@@ -1,8 +1,8 @@
 -- `estimate` counts who takes part and walks the path, where there is one. Assumes nothing.
 use borrow.Author.Needs.{needs}
 use Rattle.estimates.proofs.Shares.{over-none, over-some}
-use Rattle.transfers.proofs.Routes.{all-routes, all-room}
-use Rattle.transfers.specs.Tables.{counts}
+use Rattle.rules.proofs.Routes.{all-routes, all-room}
+use Rattle.crossings.specs.Loads.{counts}
 use Rattle.estimates.proofs.estimate.Statement.{statement}
 use Rattle.estimates.proofs.estimate.Tie as tie
 

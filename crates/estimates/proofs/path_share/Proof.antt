@@ -10,8 +10,8 @@ use Rattle.estimates.proofs.Shares.{least-share}
 use Rattle.estimates.specs.Shares.{share-by, least-by}
 use Rattle.rules.proofs.Steps.{foldl-one, getD-any}
 use Rattle.rules.specs.Records.{no-edge, takes-part}
-use Rattle.transfers.proofs.Loads.{loads-bound}
-use Rattle.transfers.proofs.Routes.{all-room}
+use Rattle.crossings.proofs.Loads.{loads-bound}
+use Rattle.rules.proofs.Routes.{all-room}
 use Rattle.estimates.proofs.path_share.Statement.{statement}
 use Rattle.estimates.proofs.path_share.Tie as tie
 

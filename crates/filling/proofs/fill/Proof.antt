@@ -4,7 +4,7 @@ use Rattle.rules.specs.Records.{own-path}
 use Rattle.fairness.proofs.Start.{own-path-kept}
 use Rattle.fairness.proofs.Loads.{never-by-nobody}
 use Rattle.fairness.proofs.Rounds.{no-more-rounds}
-use Rattle.filling.specs.Filled.{filling}
+use Rattle.rounds.specs.Standing.{filling}
 use Rattle.filling.proofs.Running.{Running, running-starts, running-comes, left-over, round-fewer, running-on}
 use borrow.Author.Needs.{needs}
 use native.Mathlib.Omega.{arith}

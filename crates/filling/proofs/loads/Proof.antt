@@ -4,7 +4,7 @@ use mathlib.Core.Logic.{⊎-elim}
 use Prim.Native.Nat.{_-_}
 use Rattle.rules.specs.Records.{own-path}
 use Rattle.paths.proofs.Routes.{known-route, route-fits, route-length}
-use Rattle.filling.proofs.Loading.{Counting, route-at, counting-starts, counting-room, counting-on, counting-past, counting-ends}
+use Rattle.rounds.proofs.Loading.{Counting, route-at, counting-starts, counting-room, counting-on, counting-past, counting-ends}
 use borrow.Author.Needs.{needs}
 use native.Mathlib.Omega.{arith}
 use Rattle.filling.proofs.loads.Statement.{statement}

@@ -4,7 +4,7 @@ use mathlib.Core.List.{map}
 use Rattle.rules.specs.declared.Seat.{Seat}
 use Rattle.rules.specs.Records.{own-path}
 use Rattle.rules.specs.Filling.{Filling, num-unfrozen, rounds-until, recompute-rates}
-use Rattle.filling.specs.Filled.{filling}
+use Rattle.rounds.specs.Standing.{filling}
 use borrow.Author.Needs.{needs}
 use Rattle.filling.proofs.recompute_rates.Statement.{statement}
 use Rattle.filling.proofs.recompute_rates.Tie as tie

@@ -3,7 +3,7 @@ use mathlib.Core.Path.{_≡_, refl, _∙_}
 use mathlib.Core.List.{map}
 use Prim.Native.Nat.{_-_, _≤_}
 use lib.ListN.{length, take, length-set}
-use Rattle.filling.proofs.Tables.{map-take, map-filled}
+use Rattle.rules.proofs.Tables.{map-take, map-filled}
 use Rattle.rules.specs.Records.{free, own-path}
 use Rattle.rules.specs.Filling.{seat}
 use Rattle.rules.specs.declared.Transfer.{Transfer}

@@ -5,7 +5,7 @@ use Prim.Native.Nat.{_-_, _≤_}
 use lib.ListN.{length, take, length-set}
 use Rattle.rules.specs.declared.Seat.{Seat}
 use Rattle.rules.specs.declared.Transfer.{Transfer}
-use Rattle.filling.proofs.Tables.{map-take, map-filled}
+use Rattle.rules.proofs.Tables.{map-take, map-filled}
 use borrow.Author.Needs.{needs}
 use native.Mathlib.Omega.{arith}
 use Rattle.filling.proofs.transfers.Statement.{statement}

@@ -3,7 +3,6 @@ use Prim.Native.Nat.{_-_}
 use borrow.Author.Needs.{needs}
 use lib.Ieee.{nan, ofBits}
 use lib.ListN.{length}
-use Rattle.rules.specs.Records.{own-path}
 use Rattle.rules.specs.Filling.{spend}
 use Rattle.paths.proofs.Walk.{Walk, walk-starts, walk-one, walk-ends, place-known}
 use Rattle.paths.proofs.spend.Statement.{statement}

@@ -1,8 +1,8 @@
 -- `find` looks from slot 0 up: no slot before i has the id, so the rest decides. Assumes nothing.
 use native.Mathlib.Omega.{arith}
 use borrow.Author.Needs.{needs}
-use Prim.Native.Nat.{_-_, _≤_, _+_}
-use lib.ListN.{length, drop, getD, drop-of-length-le}
+use Prim.Native.Nat.{_-_, _≤_}
+use lib.ListN.{drop, drop-of-length-le}
 use mathlib.Core.Path.{_≡_, refl, sym, _∙_, ap}
 use mathlib.Core.Bool.{true, false}
 use Rattle.slots.specs.Lookup.{lookup, lookup-from}

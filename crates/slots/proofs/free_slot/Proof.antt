@@ -6,7 +6,7 @@ use Prim.Native.Nat.{ℕ, _+_, _-_, _≤_}
 use Rattle.rules.specs.declared.Transfer.{Transfer}
 use Rattle.rules.proofs.Steps.{count-by}
 use Rattle.slots.proofs.Lookups.{first-free-one}
-use lib.ListN.{length, drop}
+use lib.ListN.{drop}
 use mathlib.Core.Path.{_≡_}
 use Rattle.rules.specs.Lists.{count}
 use Rattle.slots.specs.Lookup.{first-free}

@@ -1,0 +1,134 @@
+-- What draining one transfer keeps: who it is, its path, cap and rate; latency and bytes stay plain and do not grow; what flows is plain and no more than was left.
+-- Assumes nothing.
+use mathlib.Core.Path.{_≡_, refl, sym, _∙_}
+use mathlib.Core.Bool.{true, false, _&&_, cond}
+use Prim.Native.Nat.{_^_, _≤_}
+use native.Mathlib.Nat.{le-refl}
+use native.Mathlib.Omega.{arith}
+use lib.Dec.{T}
+use lib.Ieee.{Float}
+use lib.Ieee.Fits.{and-l, and-r}
+use Rattle.doubles.specs.Doubles.{_⊖_, _⊗_, _≺_, _≼_, nought, whole, Plain, Nonneg}
+use Rattle.doubles.proofs.Binary64.{whole-plain, times-nonneg}
+use Rattle.doubles.proofs.Ordered.{exact→le}
+use Rattle.doubles.proofs.Left.{difference-under}
+use Rattle.doubles.proofs.Signs.{plain-nonneg, difference-le-plain}
+use Rattle.doubles.proofs.Chosen.{smaller-first-plain, smaller-first-under, smaller-second-plain, smaller-second-under, rest-first-plain, rest-second-plain}
+use Rattle.rules.specs.declared.Transfer.{Transfer}
+use Rattle.rules.specs.declared.Flows.{Flows}
+use Rattle.rules.specs.Clock.{latency-paid, flowing-time, moves, bytes-flowing, drained}
+use Rattle.rules.specs.Invariant.{SoundTransfer, SoundSlot}
+use Rattle.rules.proofs.Conds.{by-test, by-true}
+use Rattle.doubles.proofs.Monotone.{plain-le-trans}
+use Rattle.rules.proofs.Routes.{route-more}
+
+-- ---- what is no business of a drain
+pub record Same (t u : Transfer) : Type 0 where
+  pub taken : u .taken ≡ t .taken
+  pub id : u .id ≡ t .id
+  pub owner : u .owner ≡ t .owner
+  pub path : u .path ≡ t .path
+  pub cap : u .«rate_cap» ≡ t .«rate_cap»
+  pub rate : u .rate ≡ t .rate
+
+pub drained-same : (until : Float) (t : Transfer) → Same t (drained until t)
+unfolding drained
+drained-same until t =
+    by-test (Same t) (t .taken) (λ _. record { taken = refl; id = refl; owner = refl; path = refl; cap = refl; rate = refl })
+    (record { taken = refl; id = refl; owner = refl; path = refl; cap = refl; rate = refl })
+
+-- a transfer in flight has been drained up to the time, and a free slot is not touched
+pub drained-time : (until : Float) (t : Transfer) → t .taken ≡ true → drained until t .«last_update» ≡ until
+unfolding drained
+drained-time until t e = rw e
+
+pub drained-free : (until : Float) (t : Transfer) → t .taken ≡ false → drained until t ≡ t
+unfolding drained
+drained-free until t e = rw e
+
+-- ---- a sound transfer, and a time that its last drain does not pass
+module _ {f : Flows} {t : Transfer} {until : Float} (s : SoundTransfer f t) (p : Plain until) (h : T (t .«last_update» ≼ until)) where
+  since : Plain (until ⊖ t .«last_update»)
+  since = difference-le-plain p (s .updated) h
+
+  pub paid-plain : Plain (latency-paid until t)
+  unfolding latency-paid
+  paid-plain = smaller-first-plain (s .latency) (plain-nonneg since)
+
+  pub latency-plain : Plain (t .«latency_remaining» ⊖ latency-paid until t)
+  unfolding latency-paid
+  latency-plain = rest-first-plain (s .latency) (plain-nonneg since)
+
+  pub latency-falls : T (t .«latency_remaining» ⊖ latency-paid until t ≼ t .«latency_remaining»)
+  unfolding latency-paid
+  latency-falls = exact→le latency-plain (s .latency) (difference-under (s .latency) paid-plain (smaller-first-under (s .latency) (plain-nonneg since)))
+
+  pub flowing-plain : Plain (flowing-time until t)
+  unfolding flowing-time latency-paid
+  flowing-plain = rest-second-plain since (plain-nonneg (s .latency))
+
+  -- where it moves
+  module _ (m : T (moves until t)) where
+    time-flows : T (nought ≺ flowing-time until t)
+    unfolding moves
+    time-flows = and-l (nought ≺ flowing-time until t) (nought ≺ t .rate && nought ≺ t .«bytes_remaining») (and-r (t .taken) (nought ≺ flowing-time until t && (nought ≺ t .rate && nought ≺ t .«bytes_remaining»)) m)
+
+    flow : Nonneg (t .rate ⊗ flowing-time until t)
+    flow = times-nonneg (s .rate) flowing-plain time-flows
+
+    pub flow-plain : Plain (bytes-flowing until t)
+    unfolding bytes-flowing
+    flow-plain = smaller-second-plain (s .bytes) flow
+
+    pub flow-under : T (bytes-flowing until t ≼ t .«bytes_remaining»)
+    unfolding bytes-flowing
+    flow-under = exact→le flow-plain (s .bytes) (smaller-second-under (s .bytes) flow)
+
+    pub flow-bound : T (bytes-flowing until t ≼ whole (2 ^ 53))
+    flow-bound = plain-le-trans flow-plain (s .bytes) (whole-plain (2 ^ 53) (omega arith)) flow-under (s .bytes-bound)
+
+    rest-plain : Plain (t .«bytes_remaining» ⊖ bytes-flowing until t)
+    unfolding bytes-flowing
+    rest-plain = rest-second-plain (s .bytes) flow
+
+    rest-falls : T (t .«bytes_remaining» ⊖ bytes-flowing until t ≼ t .«bytes_remaining»)
+    unfolding bytes-flowing
+    rest-falls = exact→le rest-plain (s .bytes) (difference-under (s .bytes) flow-plain (smaller-second-under (s .bytes) flow))
+
+  -- ---- the transfer afterwards
+  pub bytes-plain : Plain (cond (moves until t) (t .«bytes_remaining» ⊖ bytes-flowing until t) (t .«bytes_remaining»))
+  bytes-plain = by-test Plain (moves until t) rest-plain (s .bytes)
+
+  pub bytes-fall : T (cond (moves until t) (t .«bytes_remaining» ⊖ bytes-flowing until t) (t .«bytes_remaining») ≼ t .«bytes_remaining»)
+  bytes-fall = by-test (λ (x : Float). T (x ≼ t .«bytes_remaining»)) (moves until t) rest-falls (exact→le (s .bytes) (s .bytes) (le-refl _))
+
+  -- it is sound in a simulator with no fewer edges whose clock has come to that time
+  pub drained-sound : (g : Flows) → f .«num_edges» ≤ g .«num_edges» → T (until ≼ g .clock .now) → t .taken ≡ true → SoundTransfer g (drained until t)
+  unfolding drained
+  drained-sound g more by e =
+      by-true (SoundTransfer g) (t .taken) t e
+      (record {
+        path = route-more more (s .path);
+        latency = latency-plain;
+        bytes = bytes-plain;
+        bytes-bound = plain-le-trans bytes-plain (s .bytes) (whole-plain (2 ^ 53) (omega arith)) bytes-fall (s .bytes-bound);
+        cap = s .cap;
+        rate = s .rate;
+        rate-finite = s .rate-finite;
+        updated = p;
+        updated-by-now = by;
+      })
+
+-- ---- slots
+-- the last drain of a slot in flight is not past a time that the clock is not past
+pub late-enough : {f : Flows} {t : Transfer} {until : Float} → SoundTransfer f t → Plain (f .clock .now) → Plain until → T (f .clock .now ≼ until) → T (t .«last_update» ≼ until)
+late-enough s n p h = plain-le-trans (s .updated) n p (s .updated-by-now) h
+
+pub slot-kept : {f : Flows} {t : Transfer} (g : Flows) (until : Float) → Plain (f .clock .now) → Plain until → T (f .clock .now ≼ until) → f .«num_edges» ≤ g .«num_edges» → T (until ≼ g .clock .now) → SoundSlot f t → SoundSlot g (drained until t)
+slot-kept {f} {t} g until n p h more by s =
+    record {
+      held = λ e. let taken : t .taken ≡ true = sym (drained-same until t .taken) ∙ e in
+          drained-sound (s .held taken) p (late-enough (s .held taken) n p h) g more by taken;
+      blank = λ e. let left : t .taken ≡ false = sym (drained-same until t .taken) ∙ e in
+          drained-free until t left ∙ s .blank left;
+    }

@@ -1,0 +1,3 @@
+pub mod Loading
+pub mod Freezing
+pub mod Deciding
