@@ -28,38 +28,38 @@ use Rattle.questions.proofs.edge.Reads as edge
 use Rattle.questions.proofs.edge.Kinds as edge-kinds
 use Rattle.questions.proofs.mean_in_flight.Reads as mean-in-flight
 use Rattle.questions.proofs.mean_in_flight.Kinds as mean-in-flight-kinds
-use Rattle.questions.proofs.contains.Reads as contains
-use Rattle.questions.proofs.contains.Kinds as contains-kinds
+use Rattle.totals.proofs.contains.Reads as contains
+use Rattle.totals.proofs.contains.Kinds as contains-kinds
 use Rattle.advance.proofs.advance.Reads as advance
 use Rattle.advance.proofs.advance.Kinds as advance-kinds
 use Rattle.lists.proofs.take_completed.Reads as take-completed
 use Rattle.lists.proofs.take_completed.Kinds as take-completed-kinds
 use Rattle.lists.proofs.owners_with_completions.Reads as owners-with-completions
 use Rattle.lists.proofs.owners_with_completions.Kinds as owners-with-completions-kinds
-use Rattle.questions.proofs.now.Reads as reads-now
-use Rattle.questions.proofs.now.Kinds as reads-now-kinds
-use Rattle.questions.proofs.rounds.Reads as rounds
-use Rattle.questions.proofs.rounds.Kinds as rounds-kinds
-use Rattle.questions.proofs.num_edges.Reads as num-edges
-use Rattle.questions.proofs.num_edges.Kinds as num-edges-kinds
-use Rattle.questions.proofs.num_in_flight.Reads as num-in-flight
-use Rattle.questions.proofs.num_in_flight.Kinds as num-in-flight-kinds
-use Rattle.questions.proofs.num_uncollected.Reads as num-uncollected
-use Rattle.questions.proofs.num_uncollected.Kinds as num-uncollected-kinds
-use Rattle.questions.proofs.peak_in_flight.Reads as peak-in-flight
-use Rattle.questions.proofs.peak_in_flight.Kinds as peak-in-flight-kinds
-use Rattle.questions.proofs.totals.Reads as totals
-use Rattle.questions.proofs.totals.Kinds as totals-kinds
-use Rattle.questions.proofs.submitted_counts.Reads as submitted-counts
-use Rattle.questions.proofs.submitted_counts.Kinds as submitted-counts-kinds
-use Rattle.questions.proofs.completed_counts.Reads as completed-counts
-use Rattle.questions.proofs.completed_counts.Kinds as completed-counts-kinds
-use Rattle.questions.proofs.cancelled_counts.Reads as cancelled-counts
-use Rattle.questions.proofs.cancelled_counts.Kinds as cancelled-counts-kinds
-use Rattle.questions.proofs.bytes_submitted.Reads as bytes-submitted
-use Rattle.questions.proofs.bytes_submitted.Kinds as bytes-submitted-kinds
-use Rattle.questions.specs.declared.Counts.{Counts}
-use Rattle.questions.specs.declared.Bytes.{Bytes}
+use Rattle.totals.proofs.now.Reads as reads-now
+use Rattle.totals.proofs.now.Kinds as reads-now-kinds
+use Rattle.totals.proofs.rounds.Reads as rounds
+use Rattle.totals.proofs.rounds.Kinds as rounds-kinds
+use Rattle.totals.proofs.num_edges.Reads as num-edges
+use Rattle.totals.proofs.num_edges.Kinds as num-edges-kinds
+use Rattle.totals.proofs.num_in_flight.Reads as num-in-flight
+use Rattle.totals.proofs.num_in_flight.Kinds as num-in-flight-kinds
+use Rattle.totals.proofs.num_uncollected.Reads as num-uncollected
+use Rattle.totals.proofs.num_uncollected.Kinds as num-uncollected-kinds
+use Rattle.totals.proofs.peak_in_flight.Reads as peak-in-flight
+use Rattle.totals.proofs.peak_in_flight.Kinds as peak-in-flight-kinds
+use Rattle.totals.proofs.totals.Reads as totals
+use Rattle.totals.proofs.totals.Kinds as totals-kinds
+use Rattle.totals.proofs.submitted_counts.Reads as submitted-counts
+use Rattle.totals.proofs.submitted_counts.Kinds as submitted-counts-kinds
+use Rattle.totals.proofs.completed_counts.Reads as completed-counts
+use Rattle.totals.proofs.completed_counts.Kinds as completed-counts-kinds
+use Rattle.totals.proofs.cancelled_counts.Reads as cancelled-counts
+use Rattle.totals.proofs.cancelled_counts.Kinds as cancelled-counts-kinds
+use Rattle.totals.proofs.bytes_submitted.Reads as bytes-submitted
+use Rattle.totals.proofs.bytes_submitted.Kinds as bytes-submitted-kinds
+use Rattle.totals.specs.declared.Counts.{Counts}
+use Rattle.totals.specs.declared.Bytes.{Bytes}
 
 pub add-edge-decided : Decided 0 add-edge-kinds.ps add-edge-kinds.r add-edge.Post
 add-edge-decided κs a z z' e e' p q = p .0 ∙ sym (q .0)

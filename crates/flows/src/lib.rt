@@ -1,8 +1,6 @@
 // The simulator for its users: every type and every call in one place. What each does is in crates/rules/specs.
 
 // ---- types
-pub use questions::Bytes;
-pub use questions::Counts;
 pub use rules::Answer;
 pub use rules::Cap;
 pub use rules::Completion;
@@ -17,6 +15,8 @@ pub use rules::Tally;
 pub use rules::Tolerance;
 pub use rules::Totals;
 pub use rules::Transfer;
+pub use totals::Bytes;
+pub use totals::Counts;
 
 // ---- calls
 pub use advance::advance;
@@ -32,19 +32,19 @@ pub use estimates::estimate_new;
 pub use estimates::estimate_new_capped;
 pub use estimates::estimate_remaining;
 pub use lists::owners_with_completions;
-pub use questions::bytes_submitted;
-pub use questions::cancelled_counts;
-pub use questions::completed_counts;
-pub use questions::contains;
 pub use questions::edge;
 pub use questions::mean_in_flight;
 pub use questions::next_completion_delay;
-pub use questions::now;
-pub use questions::num_edges;
-pub use questions::num_in_flight;
-pub use questions::num_uncollected;
-pub use questions::peak_in_flight;
 pub use questions::rate;
-pub use questions::rounds;
-pub use questions::submitted_counts;
-pub use questions::totals;
+pub use totals::bytes_submitted;
+pub use totals::cancelled_counts;
+pub use totals::completed_counts;
+pub use totals::contains;
+pub use totals::now;
+pub use totals::num_edges;
+pub use totals::num_in_flight;
+pub use totals::num_uncollected;
+pub use totals::peak_in_flight;
+pub use totals::rounds;
+pub use totals::submitted_counts;
+pub use totals::totals;

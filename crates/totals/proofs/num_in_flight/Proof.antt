@@ -1,8 +1,8 @@
 -- `num_in_flight` counts the taken slots. Assumes nothing.
 use borrow.Author.Needs.{needs}
 use Rattle.rules.specs.Records.{num-in-flight}
-use Rattle.questions.proofs.num_in_flight.Statement.{statement}
-use Rattle.questions.proofs.num_in_flight.Tie as tie
+use Rattle.totals.proofs.num_in_flight.Statement.{statement}
+use Rattle.totals.proofs.num_in_flight.Tie as tie
 
 num-taken-requires : tie.Need-num-taken-requires
 num-taken-requires c κs = search needs

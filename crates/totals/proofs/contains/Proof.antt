@@ -3,8 +3,8 @@ use borrow.Author.Needs.{needs}
 use mathlib.Core.Path.{sym, _∙_}
 use Rattle.rules.specs.Records.{contains}
 use Rattle.slots.proofs.Found.{nowhere, somewhere}
-use Rattle.questions.proofs.contains.Statement.{statement}
-use Rattle.questions.proofs.contains.Tie as tie
+use Rattle.totals.proofs.contains.Statement.{statement}
+use Rattle.totals.proofs.contains.Tie as tie
 
 find-requires : tie.Need-find-requires
 find-requires c κs = search needs
