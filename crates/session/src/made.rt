@@ -1,14 +1,18 @@
 // A call made on the simulator. The path and the lent buffer have their lengths already.
-ghost use Prim.Native.Nat.{_≤_};
+ghost use mathlib.Core.Path.{_≡_};
+ghost use lib.ListN.{length};
 ghost use Rattle.rules.specs.Invariant.{Invariant};
-use crate::call::Call;
-use crate::call::Estimate;
-use crate::call::Submission;
+ghost use Rattle.flows.specs.Fits.{Fits};
+ghost use Rattle.session.specs.Widths.{width-of};
+use asked::Call;
+use asked::Estimate;
+use asked::Listing;
+use asked::Submission;
 use rules::Answer;
 use rules::Flows;
 use rules::Outcome;
 
-pub(crate) fn made(flows: Flows, call: Call, path: &[u32], lent: &mut [u32]) -> Outcome
+pub(crate) fn made(flows: Flows, call: Call, path: &[u32]) -> Outcome
     requires { ⌜ Invariant flows ⌝ }
     ensures { λ r. ⌜ Invariant (r .flows) ⌝ }
 {
@@ -20,13 +24,7 @@ pub(crate) fn made(flows: Flows, call: Call, path: &[u32], lent: &mut [u32]) -> 
         Call::AddEdge(capacity) => flows::add_edge(flows, capacity),
         Call::Widen(edge, amount) => flows::widen(flows, edge, amount),
         Call::Submit(s) => submitted(flows, s, path),
-        Call::Advance(until) => flows::advance(flows, until, lent),
         Call::Cancel(id) => flows::cancel(flows, id),
-        Call::TakeCompleted(owner) => flows::take_completed(flows, owner, lent),
-        Call::OwnersWithCompletions => Outcome {
-            answer: flows::owners_with_completions(flows, lent),
-            flows,
-        },
         Call::NextCompletionDelay => flows::next_completion_delay(flows),
         Call::EstimateNew(e) => estimated(flows, e, path),
         Call::EstimateRemaining(id) => flows::estimate_remaining(flows, id),
@@ -56,13 +54,29 @@ fn estimated(flows: Flows, e: Estimate, path: &[u32]) -> Outcome
     Outcome { answer, flows }
 }
 
-// How many numbers an entry of a list has that the call writes into its buffer.
-pub(crate) fn width(call: Call) -> usize
-    ensures { λ r. ⌜ r ≤ 3 ⌝ }
+// A call that lists. What it lists has room in the buffer.
+pub(crate) fn listed(flows: Flows, listing: Listing, lent: &mut [u32]) -> Outcome
+    requires { ⌜ Invariant flows ⌝ }
+    ensures sound { λ r. ⌜ Invariant (r .flows) ⌝ }
+    ensures fits { λ r. ⌜ Fits (width-of listing) (length (now (lent .exit))) (r .answer) ⌝ }
 {
-    match call {
-        Call::Advance(_) => 3,
-        Call::OwnersWithCompletions => 2,
-        _ => 1,
+    match listing {
+        Listing::Advance(until) => flows::advance(flows, until, lent),
+        Listing::TakeCompleted(owner) => flows::take_completed(flows, owner, lent),
+        Listing::OwnersWithCompletions => Outcome {
+            answer: flows::owners_with_completions(flows, lent),
+            flows,
+        },
+    }
+}
+
+// How many numbers an entry of its list has.
+pub(crate) fn width(listing: Listing) -> usize
+    ensures { λ r. ⌜ r ≡ width-of listing ⌝ }
+{
+    match listing {
+        Listing::Advance(_) => 3,
+        Listing::TakeCompleted(_) => 1,
+        Listing::OwnersWithCompletions => 2,
     }
 }

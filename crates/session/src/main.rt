@@ -1,16 +1,12 @@
 // Reads a script of calls, from the file that its argument names or from standard input, makes each on the simulator and prints the answers.
-mod call;
-mod dump;
-mod fields;
 mod made;
-mod page;
-mod told;
 
 ghost use Prim.Native.Nat.{_≤_};
 ghost use lib.ListN.{length};
 ghost use Rattle.rules.specs.Invariant.{Invariant};
-use call::Ask;
-use call::Call;
+use asked::Ask;
+use asked::Call;
+use asked::Listing;
 use libc::STDIN_FILENO;
 use rules::Flows;
 use script::Line;
@@ -70,7 +66,7 @@ fn run_script(fd: i32, name: &[u8]) {
     let flows = now.flows;
     let line = now.line;
     let last = ended(flows, line, &text, &mut page, now.at);
-    page::write_out(&page, last.at);
+    fields::write_out(&page, last.at);
 }
 
 // Reads once, and answers every line that ends in what was read.
@@ -163,7 +159,7 @@ fn ended(flows: Flows, line: Line, text: &[u8; 4096], page: &mut [u8; 65536], at
     if len == 0 {
         return Next { flows, at };
     }
-    let at = page::room(page, at);
+    let at = fields::room(page, at);
     if line.long {
         let at = script::put_text(page, at, b"malformed\n");
         return Next { flows, at };
@@ -179,7 +175,7 @@ fn answered(flows: Flows, text: &[u8], len: usize, page: &mut [u8; 65536], at: u
     ensures { λ r. ⌜ r .at ≤ 65536 ⌝ }
 {
     let mut path = [0u32; 128];
-    let request = call::read(&text[..len], &mut path);
+    let request = asked::read(&text[..len], &mut path);
     let ask = request.ask;
     match ask {
         Ask::Malformed => {
@@ -192,18 +188,34 @@ fn answered(flows: Flows, text: &[u8], len: usize, page: &mut [u8; 65536], at: u
         }
         Ask::Act(call) => {
             let hops = request.hops;
+            acted(flows, call, &path[..hops], page, at)
+        }
+        Ask::List(listing) => {
             let places = request.places;
             let mut lent = [0xa5a5_a5a5u32; 1024];
-            acted(flows, call, &path[..hops], &mut lent[..places], page, at)
+            listed(flows, listing, &mut lent[..places], page, at)
         }
     }
 }
 
-// A call made and answered, its path and its buffer cut to their lengths.
-fn acted(
+// A call made and answered, its path cut to its length.
+fn acted(flows: Flows, call: Call, path: &[u32], page: &mut [u8; 65536], at: usize) -> Next
+    requires { ⌜ Invariant flows ⌝ }
+    requires { ⌜ at ≤ 49152 ⌝ }
+    ensures { λ r. ⌜ Invariant (r .flows) ⌝ }
+    ensures { λ r. ⌜ r .at ≤ 65536 ⌝ }
+{
+    let done = made::made(flows, call, path);
+    let answer = done.answer;
+    let at = told::answer(answer, page, at);
+    let flows = done.flows;
+    Next { flows, at }
+}
+
+// A call that lists made and answered, its buffer cut to its length.
+fn listed(
     flows: Flows,
-    call: Call,
-    path: &[u32],
+    listing: Listing,
     lent: &mut [u32],
     page: &mut [u8; 65536],
     at: usize,
@@ -213,9 +225,9 @@ fn acted(
     ensures { λ r. ⌜ Invariant (r .flows) ⌝ }
     ensures { λ r. ⌜ r .at ≤ 65536 ⌝ }
 {
-    let done = made::made(flows, call, path, lent);
+    let done = made::listed(flows, listing, lent);
     let answer = done.answer;
-    let at = told::answer(answer, made::width(call), lent, page, at);
+    let at = told::listed(answer, made::width(listing), lent, page, at);
     let flows = done.flows;
     Next { flows, at }
 }

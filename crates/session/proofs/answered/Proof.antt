@@ -48,14 +48,20 @@ array-share-prefix-path c = search needs
 slice-aggregate-acted : tie.Need-slice-aggregate-acted
 slice-aggregate-acted c = simp length-take (omega (arith, c .before .before .before .before .before .read .kept .1 .0, c .before .before .before .before .before .read .ensures .0))
 
+acted-requires : tie.Need-acted-requires
+acted-requires c κs = search needs
+
+enum-known-ask-3 : tie.Need-enum-known-ask-3
+enum-known-ask-3 c = search needs
+
 array-borrow-prefix-lent : tie.Need-array-borrow-prefix-lent
 array-borrow-prefix-lent c = search needs
 
-slice-aggregate-acted-2 : tie.Need-slice-aggregate-acted-2
-slice-aggregate-acted-2 c = part _ (c .before .before .before .before .before .before .read .ensures .1)
+slice-aggregate-listed : tie.Need-slice-aggregate-listed
+slice-aggregate-listed c = part _ (c .before .before .before .before .before .read .ensures .1)
 
-acted-requires : tie.Need-acted-requires
-acted-requires c κs = (search needs, (within (c .before .before .before .before .before .before .before .read .result .places), search needs))
+listed-requires : tie.Need-listed-requires
+listed-requires c κs = (search needs, (within (c .before .before .before .before .before .before .read .result .places), search needs))
 
 returns : tie.Need-returns
 returns c = search needs
@@ -65,6 +71,9 @@ returns-2 c = search needs
 
 returns-3 : tie.Need-returns-3
 returns-3 c = search needs
+
+returns-4 : tie.Need-returns-4
+returns-4 c = search needs
 
 pub answered-spec : {M : Type 1} → statement M
 answered-spec =
@@ -81,9 +90,12 @@ answered-spec =
     enum-known-ask-2
     array-share-prefix-path
     slice-aggregate-acted
-    array-borrow-prefix-lent
-    slice-aggregate-acted-2
     acted-requires
+    enum-known-ask-3
+    array-borrow-prefix-lent
+    slice-aggregate-listed
+    listed-requires
     returns
     returns-2
-    returns-3)
+    returns-3
+    returns-4)

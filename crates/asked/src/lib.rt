@@ -1,0 +1,432 @@
+// A line of the script as a request. Whatever the format does not allow is malformed.
+ghost use Prim.Native.Nat.{_≤_};
+ghost use lib.ListN.{length};
+ghost use Rattle.asked.specs.Request.{Within};
+use rules::Cap;
+use rules::Owner;
+use script::Long;
+use script::RealWord;
+use script::Short;
+
+// What a line asks for.
+pub enum Ask {
+    Malformed,
+    Act(Call),
+    List(Listing),
+    See(Look),
+}
+
+// The calls that are lent no buffer.
+pub enum Call {
+    New,
+    AddEdge(f64),
+    Widen(u32, f64),
+    Submit(Submission),
+    Cancel(u32),
+    NextCompletionDelay,
+    EstimateNew(Estimate),
+    EstimateRemaining(u32),
+    MeanInFlight(u32, f64),
+    Rate(u32),
+}
+
+// The calls that list into a lent buffer.
+pub enum Listing {
+    Advance(f64),
+    TakeCompleted(Owner),
+    OwnersWithCompletions,
+}
+
+// The calls that only look.
+pub enum Look {
+    Rounds,
+    Contains(u32),
+    Now,
+    Edge(u32),
+    Counts,
+    Dump,
+}
+
+pub struct Submission {
+    pub id: u32,
+    pub owner: Owner,
+    pub bytes: u64,
+    pub latency: f64,
+    pub cap: Cap,
+    pub time: f64,
+}
+
+pub struct Estimate {
+    pub bytes: f64,
+    pub latency: f64,
+    pub cap: Cap,
+}
+
+// What is asked, with the length of its path and of its lent buffer, 0 where it has none.
+pub struct Request {
+    pub ask: Ask,
+    pub hops: usize,
+    pub places: usize,
+}
+
+// A number that ends its line.
+enum Last {
+    Only(u32),
+    NoLast,
+}
+
+enum OwnerWord {
+    OwnerTo(Owner, usize),
+    NoOwner,
+}
+
+enum CapWord {
+    CapTo(Cap, usize),
+    NoCap,
+}
+
+// Where the numbers of a path end. They are put into a table of their own.
+enum PathWords {
+    PathTo(usize),
+    NoPath,
+}
+
+// ---- by the first word
+
+pub fn read(line: &[u8], path: &mut [u32]) -> Request
+    requires { ⌜ 128 ≤ length (now path) ⌝ }
+    ensures { λ r. ⌜ Within r ⌝ }
+{
+    let word = script::next_word(line, 0);
+    let start = word.start;
+    let end = word.end;
+    let name = &line[start..end];
+    if check::same(name, b"submit") {
+        return submit(line, end, path);
+    }
+    if check::same(name, b"advance") {
+        return advance(line, end);
+    }
+    if check::same(name, b"take_completed") {
+        return take_completed(line, end);
+    }
+    if check::same(name, b"owners_with_completions") {
+        return lending(line, end, Listing::OwnersWithCompletions);
+    }
+    if check::same(name, b"estimate_new") {
+        return estimate_new(line, end, path);
+    }
+    if check::same(name, b"add_edge") {
+        return add_edge(line, end);
+    }
+    if check::same(name, b"widen") {
+        return widen(line, end);
+    }
+    if check::same(name, b"mean_in_flight") {
+        return mean_in_flight(line, end);
+    }
+    let ask = read_short(name, line, end);
+    Request {
+        ask,
+        hops: 0,
+        places: 0,
+    }
+}
+
+// The calls with one number or none.
+fn read_short(name: &[u8], line: &[u8], at: usize) -> Ask {
+    let word = script::next_word(line, at);
+    if word.start == word.end {
+        return read_bare(name);
+    }
+    let Last::Only(id) = last_number(line, at) else {
+        return Ask::Malformed;
+    };
+    if check::same(name, b"cancel") {
+        return Ask::Act(Call::Cancel(id));
+    }
+    if check::same(name, b"estimate_remaining") {
+        return Ask::Act(Call::EstimateRemaining(id));
+    }
+    if check::same(name, b"rate") {
+        return Ask::Act(Call::Rate(id));
+    }
+    if check::same(name, b"contains") {
+        return Ask::See(Look::Contains(id));
+    }
+    if check::same(name, b"edge") {
+        return Ask::See(Look::Edge(id));
+    }
+    Ask::Malformed
+}
+
+// The calls that stand alone.
+fn read_bare(name: &[u8]) -> Ask {
+    if check::same(name, b"next_completion_delay") {
+        return Ask::Act(Call::NextCompletionDelay);
+    }
+    if check::same(name, b"new") {
+        return Ask::Act(Call::New);
+    }
+    if check::same(name, b"rounds") {
+        return Ask::See(Look::Rounds);
+    }
+    if check::same(name, b"now") {
+        return Ask::See(Look::Now);
+    }
+    if check::same(name, b"counts") {
+        return Ask::See(Look::Counts);
+    }
+    if check::same(name, b"dump") {
+        return Ask::See(Look::Dump);
+    }
+    Ask::Malformed
+}
+
+// ---- one function for each call with several words
+
+fn submit(line: &[u8], at: usize, path: &mut [u32]) -> Request
+    requires { ⌜ 128 ≤ length (now path) ⌝ }
+    ensures { λ r. ⌜ Within r ⌝ }
+{
+    let Short::ShortTo(id, at) = script::short_at(line, at) else {
+        return malformed();
+    };
+    let OwnerWord::OwnerTo(owner, at) = owner_at(line, at) else {
+        return malformed();
+    };
+    let Long::LongTo(bytes, at) = script::long_at(line, at) else {
+        return malformed();
+    };
+    let RealWord::RealTo(latency, at) = script::double_at(line, at) else {
+        return malformed();
+    };
+    let CapWord::CapTo(cap, at) = cap_at(line, at) else {
+        return malformed();
+    };
+    let RealWord::RealTo(time, at) = script::double_at(line, at) else {
+        return malformed();
+    };
+    along(
+        line,
+        at,
+        path,
+        Call::Submit(Submission {
+            id,
+            owner,
+            bytes,
+            latency,
+            cap,
+            time,
+        }),
+    )
+}
+
+fn estimate_new(line: &[u8], at: usize, path: &mut [u32]) -> Request
+    requires { ⌜ 128 ≤ length (now path) ⌝ }
+    ensures { λ r. ⌜ Within r ⌝ }
+{
+    let RealWord::RealTo(bytes, at) = script::double_at(line, at) else {
+        return malformed();
+    };
+    let RealWord::RealTo(latency, at) = script::double_at(line, at) else {
+        return malformed();
+    };
+    let CapWord::CapTo(cap, at) = cap_at(line, at) else {
+        return malformed();
+    };
+    along(
+        line,
+        at,
+        path,
+        Call::EstimateNew(Estimate {
+            bytes,
+            latency,
+            cap,
+        }),
+    )
+}
+
+fn advance(line: &[u8], at: usize) -> Request
+    ensures { λ r. ⌜ Within r ⌝ }
+{
+    let RealWord::RealTo(time, at) = script::double_at(line, at) else {
+        return malformed();
+    };
+    lending(line, at, Listing::Advance(time))
+}
+
+fn take_completed(line: &[u8], at: usize) -> Request
+    ensures { λ r. ⌜ Within r ⌝ }
+{
+    let OwnerWord::OwnerTo(owner, at) = owner_at(line, at) else {
+        return malformed();
+    };
+    lending(line, at, Listing::TakeCompleted(owner))
+}
+
+fn add_edge(line: &[u8], at: usize) -> Request
+    ensures { λ r. ⌜ Within r ⌝ }
+{
+    let RealWord::RealTo(capacity, at) = script::double_at(line, at) else {
+        return malformed();
+    };
+    alone(line, at, Call::AddEdge(capacity))
+}
+
+fn widen(line: &[u8], at: usize) -> Request
+    ensures { λ r. ⌜ Within r ⌝ }
+{
+    let Short::ShortTo(edge, at) = script::short_at(line, at) else {
+        return malformed();
+    };
+    let RealWord::RealTo(amount, at) = script::double_at(line, at) else {
+        return malformed();
+    };
+    alone(line, at, Call::Widen(edge, amount))
+}
+
+fn mean_in_flight(line: &[u8], at: usize) -> Request
+    ensures { λ r. ⌜ Within r ⌝ }
+{
+    let Short::ShortTo(edge, at) = script::short_at(line, at) else {
+        return malformed();
+    };
+    let RealWord::RealTo(until, at) = script::double_at(line, at) else {
+        return malformed();
+    };
+    alone(line, at, Call::MeanInFlight(edge, until))
+}
+
+// ---- how a line ends
+
+fn malformed() -> Request
+    ensures { λ r. ⌜ Within r ⌝ }
+{
+    Request {
+        ask: Ask::Malformed,
+        hops: 0,
+        places: 0,
+    }
+}
+
+// With nothing more.
+fn alone(line: &[u8], at: usize, call: Call) -> Request
+    ensures { λ r. ⌜ Within r ⌝ }
+{
+    let word = script::next_word(line, at);
+    if word.start < word.end {
+        return malformed();
+    }
+    Request {
+        ask: Ask::Act(call),
+        hops: 0,
+        places: 0,
+    }
+}
+
+// With the length of the buffer that is lent.
+fn lending(line: &[u8], at: usize, listing: Listing) -> Request
+    ensures { λ r. ⌜ Within r ⌝ }
+{
+    let Last::Only(places) = last_number(line, at) else {
+        return malformed();
+    };
+    if 1024 < places {
+        return malformed();
+    }
+    Request {
+        ask: Ask::List(listing),
+        hops: 0,
+        places: places as usize,
+    }
+}
+
+// With a path.
+fn along(line: &[u8], at: usize, path: &mut [u32], call: Call) -> Request
+    requires { ⌜ 128 ≤ length (now path) ⌝ }
+    ensures { λ r. ⌜ Within r ⌝ }
+{
+    let Short::ShortTo(count, at) = script::short_at(line, at) else {
+        return malformed();
+    };
+    if 128 < count {
+        return malformed();
+    }
+    let PathWords::PathTo(end) = path_at(line, at, path, count as usize) else {
+        return malformed();
+    };
+    let word = script::next_word(line, end);
+    if word.start < word.end {
+        return malformed();
+    }
+    Request {
+        ask: Ask::Act(call),
+        hops: count as usize,
+        places: 0,
+    }
+}
+
+fn last_number(line: &[u8], at: usize) -> Last {
+    let Short::ShortTo(n, at) = script::short_at(line, at) else {
+        return Last::NoLast;
+    };
+    let word = script::next_word(line, at);
+    if word.start < word.end {
+        return Last::NoLast;
+    }
+    Last::Only(n)
+}
+
+// ---- owners, caps, paths
+
+// Only a worker has a number: the other kinds have 0 there.
+fn owner_at(line: &[u8], at: usize) -> OwnerWord {
+    let Short::ShortTo(kind, at) = script::short_at(line, at) else {
+        return OwnerWord::NoOwner;
+    };
+    let Short::ShortTo(worker, at) = script::short_at(line, at) else {
+        return OwnerWord::NoOwner;
+    };
+    if kind == 0 {
+        return OwnerWord::OwnerTo(Owner::Worker(worker), at);
+    }
+    if worker == 0 {
+        if kind == 1 {
+            return OwnerWord::OwnerTo(Owner::Handoff, at);
+        }
+        if kind == 2 {
+            return OwnerWord::OwnerTo(Owner::Write, at);
+        }
+    }
+    OwnerWord::NoOwner
+}
+
+fn cap_at(line: &[u8], at: usize) -> CapWord {
+    let word = script::next_word(line, at);
+    let start = word.start;
+    let end = word.end;
+    if check::same(&line[start..end], b"-") {
+        return CapWord::CapTo(Cap::Uncapped, end);
+    }
+    let RealWord::RealTo(limit, at) = script::double_at(line, at) else {
+        return CapWord::NoCap;
+    };
+    CapWord::CapTo(Cap::AtMost(limit), at)
+}
+
+fn path_at(line: &[u8], from: usize, path: &mut [u32], count: usize) -> PathWords
+    requires { ⌜ count ≤ length (now path) ⌝ }
+{
+    let mut at = from;
+    let mut i = 0;
+    while i < count {
+        let Short::ShortTo(edge, end) = script::short_at(line, at) else {
+            return PathWords::NoPath;
+        };
+        path[i] = edge;
+        at = end;
+        i += 1;
+    }
+    PathWords::PathTo(at)
+}
