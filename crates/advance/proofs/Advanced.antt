@@ -16,7 +16,7 @@ use Rattle.rules.specs.Clock.{pass-time}
 use Rattle.rules.specs.Calls.{later-than, quiet, done-list, listing, advance}
 use Rattle.rules.specs.Invariant.{Invariant}
 use Rattle.keeps.proofs.Calls.{advance-keeps}
-use Rattle.advance.specs.Leaving.{settled}
+use Rattle.advance.specs.Settled.{settled}
 
 module _ (until : Float) (f : Flows) (buffer : List ℕ) where
   pub advance-no-time : not-a-time until ≡ true → advance until f buffer ≡ refused-lent f buffer 1

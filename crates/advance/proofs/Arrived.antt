@@ -11,7 +11,8 @@ use Rattle.rules.specs.Clock.{edge-loads}
 use Rattle.rules.specs.Invariant.{ClockTime, Invariant}
 use Rattle.keeps.proofs.Refreshing.{ensure-rates-refreshes, refreshed-at}
 use Rattle.keeps.proofs.Draining.{drain-to-keeps, drained-all}
-use Rattle.advance.specs.Leaving.{settled, AtClock}
+use Rattle.leaving.specs.Leaving.{AtClock}
+use Rattle.advance.specs.Settled.{settled}
 
 pub settled-at : {until : Float} {f : Flows} → Invariant f → ClockTime until → T (f .clock .now ≼ until) → AtClock (settled until f)
 unfolding settled

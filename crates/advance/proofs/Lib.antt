@@ -1,4 +1,3 @@
 pub mod Listed
-pub mod Leaving
 pub mod Arrived
 pub mod Advanced

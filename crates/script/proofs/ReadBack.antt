@@ -4,9 +4,9 @@ use Prim.Native.Nat.{ℕ, zero, suc, _+_, _*_, _/_, _%_, _^_, _≤_, _<_}
 use native.Mathlib.Nat.{pow-suc, mod-lt, div-add-mod', div-lt-iff-lt-mul}
 use native.Mathlib.Numerals.{add-one}
 use native.Mathlib.Omega.{arith}
-use mathlib.Core.Bool.{Bool, true, false, _&&_, cond}
-use mathlib.Core.List.{List, [], _∷_, _++_, foldl, foldl-append}
-use lib.Dec.{T, ltb, lit<}
+use mathlib.Core.Bool.{Bool, true, false, cond}
+use mathlib.Core.List.{List, [], _∷_, foldl, foldl-append}
+use lib.Dec.{T, ltb}
 use lib.ListN.{length, length-append}
 use lib.Ieee.{Float, binary64, fits}
 use borrow.Author.Tests.{ltb-true, ltb-false, lt-ltb, le-ltb, le-leb, lt-leb, eq-eqb}
@@ -14,7 +14,7 @@ use Rattle.io.specs.Digits.{glyph, digits}
 use Rattle.doubles.specs.Doubles.{of-bits, bits-of}
 use Rattle.doubles.proofs.Bits as bits
 use Rattle.script.specs.declared.Number.{Number}
-use Rattle.script.specs.declared.Number.the-variants.{Whole, NoNumber}
+use Rattle.script.specs.declared.Number.the-variants.{Whole}
 use Rattle.script.specs.declared.Double.the-variants.{Real}
 use Rattle.script.specs.Numbers.{digit, more, number-of}
 use Rattle.script.specs.Reals.{bits-or, double-of}

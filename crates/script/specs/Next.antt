@@ -1,6 +1,6 @@
 -- The next word of a line as a number, with the place where the word ends. Definitions only.
 use Prim.Native.Nat.{ℕ, _^_}
-use mathlib.Core.Bool.{Bool, cond}
+use mathlib.Core.Bool.{cond}
 use mathlib.Core.List.{List}
 use lib.Dec.{ltb}
 use Rattle.script.specs.declared.Number.{Number}

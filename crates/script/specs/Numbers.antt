@@ -1,6 +1,6 @@
 -- The numbers that digits spell. Definitions only.
 use Prim.Native.Nat.{ℕ, _+_, _-_, _*_, _^_}
-use mathlib.Core.Bool.{Bool, cond, _&&_}
+use mathlib.Core.Bool.{cond, _&&_}
 use mathlib.Core.List.{List, [], _∷_, foldl}
 use lib.Dec.{ltb, leb}
 use Rattle.script.specs.declared.Number.{Number}

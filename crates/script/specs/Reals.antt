@@ -1,8 +1,8 @@
 -- The doubles that words spell. Definitions only.
 use Prim.Native.Nat.{ℕ, _+_, _-_, _^_}
 use mathlib.Core.Bool.{cond}
-use mathlib.Core.List.{List, [], _∷_, foldl}
-use lib.Dec.{ltb, leb, eqb}
+use mathlib.Core.List.{List, foldl}
+use lib.Dec.{ltb, eqb}
 use lib.ListN.{length, take, drop, getD}
 use lib.Ieee.{neg}
 use Rattle.bytes.specs.Bytes.{indexOf}

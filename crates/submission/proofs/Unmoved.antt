@@ -1,5 +1,5 @@
 -- A drain changes neither what has been counted nor who is in flight, and counting changes nobody in flight. Assumes nothing.
-use mathlib.Core.Path.{_≡_, ap, _∙_}
+use mathlib.Core.Path.{_≡_, ap}
 use lib.Dec.{T}
 use lib.Ieee.{Float}
 use Rattle.doubles.specs.Doubles.{_≼_}
@@ -17,6 +17,10 @@ module _ {until : Float} {f : Flows} (inv : Invariant f) (time : ClockTime until
   pub still-counted : (owner : Owner) → tally-of owner (drain-to until f .totals) ≡ tally-of owner (f .totals)
   still-counted owner = ap (tally-of owner) (drain-to-reaches inv time later .totals)
 
-  pub still-in-flight : (owner : Owner) (change : Tally → Tally) → num-in-flight (on-tally owner change (drain-to until f)) ≡ num-in-flight f
-  unfolding num-in-flight with-totals
-  still-in-flight owner change = ap num-in-flight (on-tally-is change owner (drain-to until f)) ∙ same-count (drain-to-reaches inv time later .alike) (λ w. w .taken)
+  pub still-in-flight : num-in-flight (drain-to until f) ≡ num-in-flight f
+  unfolding num-in-flight
+  still-in-flight = same-count (drain-to-reaches inv time later .alike) (λ w. w .taken)
+
+pub counted-in-flight : (owner : Owner) (change : Tally → Tally) (f : Flows) → num-in-flight (on-tally owner change f) ≡ num-in-flight f
+unfolding num-in-flight with-totals
+counted-in-flight owner change f = ap num-in-flight (on-tally-is change owner f)

@@ -1,7 +1,8 @@
 -- `advance` makes its tests in their order, and each decides as in the definition. Assumes nothing.
 use borrow.Author.Needs.{needs}
 use mathlib.Core.Bool.{true, false}
-use mathlib.Core.Path.{_≡_, refl}
+use mathlib.Core.Path.{_≡_, refl, sym, ap, _∙_}
+use lib.Ieee.{Float}
 use Rattle.advance.proofs.Advanced.{advance-no-time, advance-early, advance-still, advance-lists, advance-sound, quiet-fresh}
 use Rattle.doubles.specs.Doubles.{read-zero}
 use Rattle.keeps.proofs.Arguments.{time-clock, time-no-earlier}
@@ -16,14 +17,14 @@ not-a-time-requires c κs = search needs
 returns : tie.Need-returns
 returns c =
     let start = c .before .before .before .before .before in
-    let odd : not-a-time (start .args .until) ≡ true = cc (c .before .before .not-a-time .ensures, c .if1 .taken) in
+    let odd : not-a-time (start .args .until) ≡ true = sym (c .before .before .not-a-time .ensures) ∙ c .if1 .taken in
     let e = advance-no-time (start .args .until) (start .args .flows) (start .args .out .now) odd in
     (rw e refl, (rw e refl, start .pre))
 
 returns-2 : tie.Need-returns-2
 returns-2 c =
     let start = c .before .before .before .before .before .before in
-    let time : not-a-time (start .args .until) ≡ false = cc (c .before .before .before .not-a-time .ensures, c .before .if1 .left) in
+    let time : not-a-time (start .args .until) ≡ false = sym (c .before .before .before .not-a-time .ensures) ∙ c .before .if1 .left in
     let e = advance-early (start .args .until) (start .args .flows) (start .args .out .now) time (c .if2 .taken) in
     (rw e refl, (rw e refl, start .pre))
 
@@ -36,7 +37,7 @@ quiet-requires c κs = search needs
 still-requires : tie.Need-still-requires
 still-requires c κs =
     let start = c .before .before .before .before .before .before .before .before .before in
-    let still : quiet (c .before .before .read-zero .result) (start .args .flows) ≡ true = cc (c .before .quiet .ensures, c .if3 .taken) in
+    let still : quiet (c .before .before .read-zero .result) (start .args .flows) ≡ true = sym (c .before .quiet .ensures) ∙ c .if3 .taken in
     (start .pre, quiet-fresh (c .before .before .read-zero .result) (start .args .flows) still)
 
 returns-3 : tie.Need-returns-3
@@ -45,8 +46,8 @@ returns-3 c =
     let until = start .args .until in
     let flows = start .args .flows in
     let out = start .args .out .now in
-    let time : not-a-time until ≡ false = cc (c .before .before .before .before .before .before .before .not-a-time .ensures, c .before .before .before .before .before .if1 .left) in
-    let still : quiet (read-zero until) flows ≡ true = cc (c .before .before .quiet .ensures, c .before .before .before .read-zero .ensures, c .before .if3 .taken) in
+    let time : not-a-time until ≡ false = sym (c .before .before .before .before .before .before .before .not-a-time .ensures) ∙ c .before .before .before .before .before .if1 .left in
+    let still : quiet (read-zero until) flows ≡ true = ap (λ (u : Float). quiet u flows) (sym (c .before .before .before .read-zero .ensures)) ∙ sym (c .before .before .quiet .ensures) ∙ c .before .if3 .taken in
     let e = advance-still until flows out time (c .before .before .before .before .if2 .left) still in
     let exactly : c .still .result ≡ advance until flows out .outcome = rw (e, ← c .before .before .before .read-zero .ensures) (c .still .ensures) in
     (exactly, (rw e refl, advance-sound until flows out (search needs) (start .pre) exactly))
@@ -55,7 +56,7 @@ listing-requires : tie.Need-listing-requires
 listing-requires c κs =
     let start = c .before .before .before .before .before .before .before .before .before .before in
     let until = start .args .until in
-    let time : not-a-time until ≡ false = cc (c .before .before .before .before .before .before .before .not-a-time .ensures, c .before .before .before .before .before .if1 .left) in
+    let time : not-a-time until ≡ false = sym (c .before .before .before .before .before .before .before .not-a-time .ensures) ∙ c .before .before .before .before .before .if1 .left in
     (start .pre, (rw (c .before .before .before .read-zero .ensures) (time-clock until (search needs) time), rw (c .before .before .before .read-zero .ensures) (time-no-earlier until (search needs) time (start .pre .clock .plain) (c .before .before .before .before .if2 .left))))
 
 same-length : tie.Need-same-length
@@ -67,8 +68,8 @@ returns-4 c =
     let until = start .args .until in
     let flows = start .args .flows in
     let out = start .args .out .now in
-    let time : not-a-time until ≡ false = cc (c .before .before .before .before .before .before .before .before .before .before .not-a-time .ensures, c .before .before .before .before .before .before .before .before .if1 .left) in
-    let loud : quiet (read-zero until) flows ≡ false = cc (c .before .before .before .before .before .quiet .ensures, c .before .before .before .before .before .before .read-zero .ensures, c .before .before .before .before .if3 .left) in
+    let time : not-a-time until ≡ false = sym (c .before .before .before .before .before .before .before .before .before .before .not-a-time .ensures) ∙ c .before .before .before .before .before .before .before .before .if1 .left in
+    let loud : quiet (read-zero until) flows ≡ false = ap (λ (u : Float). quiet u flows) (sym (c .before .before .before .before .before .before .read-zero .ensures)) ∙ sym (c .before .before .before .before .before .quiet .ensures) ∙ c .before .before .before .before .if3 .left in
     let e = advance-lists until flows out time (c .before .before .before .before .before .before .before .if2 .left) loud in
     let exactly : c .before .before .listing .result ≡ advance until flows out .outcome = rw (e, ← c .before .before .before .before .before .before .read-zero .ensures) (c .before .before .listing .ensures .0) in
     (exactly, (rw (e, ← c .before .before .before .before .before .before .read-zero .ensures) (c .before .before .listing .ensures .1), advance-sound until flows out (search needs) (start .pre) exactly))

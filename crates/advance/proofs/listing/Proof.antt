@@ -3,7 +3,8 @@ use native.Mathlib.Omega.{arith}
 use borrow.Author.Needs.{needs}
 use lib.ListN.{length, take}
 use mathlib.Core.Path.{_≡_, refl, ap, _∙_}
-use Rattle.advance.proofs.Listed.{table-list, table-count, listing-short, listing-all}
+use Rattle.advance.proofs.Listed.{listing-short, listing-all}
+use Rattle.leaving.proofs.Listed.{table-list, table-count}
 use Rattle.queue.specs.declared.Table.{Table}
 use Rattle.rules.specs.Calls.{done-list}
 use Rattle.advance.proofs.listing.Statement.{statement}

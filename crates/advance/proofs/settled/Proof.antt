@@ -1,7 +1,9 @@
 -- `settled` drains and then brings rates up to date, which moves nobody. Assumes nothing.
 use borrow.Author.Needs.{needs}
+use mathlib.Core.Path.{_≡_, ap, _∙_}
+use Rattle.rules.specs.Clock.{ensure-rates}
 use Rattle.advance.proofs.Arrived.{settled-at}
-use Rattle.advance.specs.Leaving.{settled}
+use Rattle.advance.specs.Settled.{settled}
 use Rattle.advance.proofs.settled.Statement.{statement}
 use Rattle.advance.proofs.settled.Tie as tie
 
@@ -14,7 +16,8 @@ ensure-rates-requires c κs = search needs
 returns : tie.Need-returns
 unfolding settled
 returns c =
-    let e = rw (c .before .drain-to .ensures .0) at (c .ensure-rates .ensures .0) in
+    let args = c .before .before .args in
+    let e : c .ensure-rates .result ≡ settled (args .until) (args .flows) = c .ensure-rates .ensures .0 ∙ ap ensure-rates (c .before .drain-to .ensures .0) in
     (e, (c .ensure-rates .ensures .1, rw e (settled-at (c .before .before .pre .0) (c .before .before .pre .1 .0) (c .before .before .pre .1 .1))))
 
 pub settled-spec : {M : Type 1} → statement M

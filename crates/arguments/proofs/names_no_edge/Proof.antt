@@ -35,7 +35,7 @@ returns c =
     let path = c .before .before .before .before .before .before .args .path .now in
     let n = c .before .before .before .before .before .before .args .n in
     let i = c .before .before .before .before .loop .i in
-    let test : leb n (getD path i 0) ≡ true = rw (c .before .wide .ensures) at (le-leb _ _ (c .if1 .taken)) in
+    let test : leb n (getD path i 0) ≡ true = rw (c .before .wide .ensures) at (le-leb n (c .before .wide .result) (omega arith)) in
     sym (ap (λ (b : Bool). b || any (leb n) (drop (i + 1) path)) test) ∙ sym (any-one path i 0 (omega arith) (leb n)) ∙ c .before .before .before .before .loop .inv .1
 
 add-i : tie.Need-add-i Inv-loop μ-loop
@@ -49,7 +49,7 @@ loop-again c =
     let path = c .before .before .before .before .before .before .args .path .now in
     let n = c .before .before .before .before .before .before .args .n in
     let i = c .before .before .before .before .loop .i in
-    let test : leb n (getD path i 0) ≡ false = rw (c .before .wide .ensures) at (lt-leb _ _ (c .if1 .left)) in
+    let test : leb n (getD path i 0) ≡ false = rw (c .before .wide .ensures) at (lt-leb n (c .before .wide .result) (omega arith)) in
     (omega arith, sym (ap (λ (b : Bool). b || any (leb n) (drop (i + 1) path)) test) ∙ sym (any-one path i 0 (omega arith) (leb n)) ∙ c .before .before .before .before .loop .inv .1)
 
 returns-2 : tie.Need-returns-2 Inv-loop μ-loop

@@ -1,5 +1,7 @@
 -- `read_cap` reads the amount of a cap. Assumes nothing.
 use borrow.Author.Needs.{needs}
+use mathlib.Core.Path.{ap}
+use Rattle.rules.specs.declared.Cap.the-variants.{AtMost}
 use Rattle.rules.specs.Refusals.{read-cap}
 use Rattle.arguments.proofs.read_cap.Statement.{statement}
 use Rattle.arguments.proofs.read_cap.Tie as tie
@@ -19,7 +21,7 @@ read-zero-requires c κs = search needs
 
 returns-2 : tie.Need-returns-2
 unfolding read-cap
-returns-2 c = rw (c .before .before .cap .given .1, c .read-zero .ensures)
+returns-2 c = rw (c .before .before .cap .given .1) (ap AtMost (c .read-zero .ensures))
 
 pub read-cap-spec : {M : Type 1} → statement M
 read-cap-spec = tie.close (tie.spec enum-known-cap enum-told returns read-zero-requires returns-2)

@@ -1,7 +1,9 @@
 -- `drain_slots` credits the edges from the slots as they were, and then drains the slots. Assumes nothing.
 use borrow.Author.Needs.{needs}
-use Rattle.rules.specs.Records.{with-edges, with-in-flight}
-use Rattle.rules.specs.Clock.{drain-slots}
+use mathlib.Core.Path.{_≡_}
+use mathlib.Core.List.{map, foldl}
+use Rattle.rules.specs.Records.{own-path, with-edges, with-in-flight}
+use Rattle.rules.specs.Clock.{drained, deliver, drain-slots}
 use Rattle.rules.proofs.Routes.{all-routes}
 use Rattle.clock.proofs.drain_slots.Statement.{statement}
 use Rattle.clock.proofs.drain_slots.Tie as tie
@@ -14,7 +16,11 @@ drained-all-requires c κs = search needs
 
 returns : tie.Need-returns
 unfolding drain-slots with-edges with-in-flight
-returns c = rw (c .drained-all .ensures, c .before .delivered .ensures)
+returns c =
+    let args = c .before .before .before .before .args in
+    let credited : c .before .delivered .result ≡ foldl (deliver own-path (args .until)) (args .flows .edges) (args .flows .«in_flight») = c .before .delivered .ensures in
+    let left : c .drained-all .result ≡ map (drained (args .until)) (args .flows .«in_flight») = c .drained-all .ensures in
+    rw (← left, ← credited)
 
 pub drain-slots-spec : {M : Type 1} → statement M
 drain-slots-spec = tie.close (tie.spec delivered-requires drained-all-requires returns)

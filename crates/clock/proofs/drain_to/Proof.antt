@@ -19,10 +19,9 @@ drain-slots-requires c κs = c .before .before .rated-for .ensures .1
 
 pass-time-requires : tie.Need-pass-time-requires
 pass-time-requires c κs =
-    let rated = c .before .before .before .rated-for in
-    let until = c .before .before .before .before .args .until in (
-      rw (c .drain-slots .ensures) (drained-places until (rated .result) ∙ rated .ensures .1 .edge-places),
-      rw (c .drain-slots .ensures, c .before .edge-loads .ensures) (drained-loads until (rated .result) (rated .ensures .1 .edge-places)),
+    let rated = c .before .before .before .rated-for in (
+      rw (c .drain-slots .ensures) (drained-places _ (rated .result) ∙ rated .ensures .1 .edge-places),
+      rw (c .drain-slots .ensures, c .before .edge-loads .ensures) (drained-loads _ (rated .result) (rated .ensures .1 .edge-places)),
     )
 
 returns : tie.Need-returns

@@ -1,8 +1,10 @@
 -- `ensure_rates` fills where rates are stale, and what follows from the rates is worked out from the filled slots; the loads are those of the slots as they were. Assumes nothing.
+use mathlib.Core.Path.{_≡_}
 use borrow.Author.Needs.{needs}
 use Rattle.clock.proofs.Kept.{rates-kept, load-kept}
 use Rattle.filling.proofs.Fillable.{fillable}
-use Rattle.rules.specs.Clock.{ensure-rates, with-rates, edge-loads}
+use Rattle.rules.specs.declared.EdgeLoad.{EdgeLoad}
+use Rattle.rules.specs.Clock.{soonest, ahead, ensure-rates, with-rates, edge-loads}
 use Rattle.rules.specs.Done.{done-eps}
 use Rattle.rules.specs.Records.{with-in-flight, with-edge-load, with-clock}
 use Rattle.rules.proofs.Routes.{all-routes, all-room}
@@ -25,10 +27,14 @@ edge-loads-requires : tie.Need-edge-loads-requires
 edge-loads-requires c κs = (all-routes (c .before .before .before .before .before .before .before .before .before .before .pre), all-room (c .before .before .before .before .before .before .before .before .before .before .pre))
 
 returns : tie.Need-returns
-unfolding ensure-rates with-rates with-in-flight with-edge-load with-clock done-eps
+unfolding ensure-rates with-rates with-in-flight with-edge-load with-clock done-eps edge-loads
 returns c =
-    rates-kept (c .before .before .before .before .before .before .before .before .before .before .before .pre)
-    (rw (c .before .ahead .ensures, c .before .before .soonest .ensures, c .before .before .before .done-eps .ensures, c .before .before .before .before .before .recompute-rates .ensures .0, c .before .before .before .before .before .recompute-rates .ensures .1, c .edge-loads .ensures, load-kept (c .before .before .before .before .before .before .before .before .before .before .before .pre), c .before .before .before .before .before .before .before .before .before .if1 .taken))
+    let entry = c .before .before .before .before .before .before .before .before .before .before .before in
+    let flows = entry .args .flows in
+    let filled = c .before .before .before .before .before .recompute-rates in
+    let next : c .before .ahead .result ≡ ahead (flows .clock .now) (soonest (done-eps flows) (filled .result .«in_flight»)) = rw (c .before .ahead .ensures, c .before .before .soonest .ensures, c .before .before .before .done-eps .ensures) in
+    let loads : _≡_ {A = EdgeLoad} (record { load = c .edge-loads .result; len = flows .«num_edges» }) (edge-loads flows) = rw (c .edge-loads .ensures) (load-kept (entry .pre)) in
+    rates-kept (entry .pre) (rw (c .before .before .before .before .before .before .before .before .before .if1 .taken, ← filled .ensures .0, ← filled .ensures .1, ← next, ← loads))
 
 returns-2 : tie.Need-returns-2
 unfolding ensure-rates

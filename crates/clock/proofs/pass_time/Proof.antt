@@ -2,8 +2,10 @@
 use borrow.Author.Needs.{needs}
 use mathlib.Core.Logic.{⊎-elim}
 use Rattle.doubles.specs.Doubles.{_⊖_}
-use Rattle.rules.specs.Records.{with-edges, with-clock, at-time}
-use Rattle.rules.specs.Clock.{pass-time}
+use mathlib.Core.Path.{_≡_, _∙_}
+use Rattle.rules.specs.Lists.{map-from}
+use Rattle.rules.specs.Records.{path-of, counts-in-loads, crossings-by, with-edges, with-clock, at-time}
+use Rattle.rules.specs.Clock.{gain-busy, pass-time}
 use Rattle.clock.proofs.Busy.{busy-by-load}
 use Rattle.clock.proofs.pass_time.Statement.{statement}
 use Rattle.clock.proofs.pass_time.Tie as tie
@@ -15,8 +17,12 @@ returns : tie.Need-returns
 unfolding pass-time at-time with-clock with-edges
 returns c =
     let start = c .before .before .before in
+    let flows = start .args .flows in
+    let dt = start .args .until ⊖ flows .clock .now in
     ⊎-elim
-    (λ w. rw (w .3, w .0 .taken, w .2 .ensures, busy-by-load (start .args .flows) (start .pre .0) (start .args .load) (start .pre .1) (start .args .until ⊖ start .args .flows .clock .now)))
+    (λ w.
+    let busy : w .2 .result ≡ map-from 0 (λ e edge. gain-busy dt (crossings-by counts-in-loads (path-of flows) (flows .«in_flight») e) edge) (flows .edges) = w .2 .ensures ∙ busy-by-load flows (start .pre .0) (start .args .load) (start .pre .1) dt in
+    rw (w .3, w .0 .taken, ← busy))
     (λ w. rw (w .1, w .0 .left))
     (c .if1 .came)
 

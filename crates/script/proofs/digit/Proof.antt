@@ -23,31 +23,31 @@ add-result-2 c = search needs
 
 returns : tie.Need-returns
 unfolding digit
-returns c = (rw (lt-ltb _ _ (c .if1 .taken)), omega arith)
+returns c = let b = c .before .args .b in (rw (lt-ltb b 48 (omega arith)), omega arith)
 
 returns-2 : tie.Need-returns-2
 unfolding digit
-returns-2 c = (rw (le-ltb _ _ (c .before .if1 .left), le-leb _ _ (c .if2 .taken)), omega arith)
+returns-2 c = let b = c .before .before .args .b in (rw (le-ltb b 48 (omega arith), le-leb b 57 (omega arith)), omega arith)
 
 returns-3 : tie.Need-returns-3
 unfolding digit
-returns-3 c = (rw (le-ltb _ _ (c .before .before .if1 .left), lt-leb _ _ (c .before .if2 .left), lt-ltb _ _ (c .if3 .taken)), omega arith)
+returns-3 c = let b = c .before .before .before .args .b in (rw (le-ltb b 48 (omega arith), lt-leb b 57 (omega arith), lt-ltb b 65 (omega arith)), omega arith)
 
 returns-4 : tie.Need-returns-4
 unfolding digit
-returns-4 c = (rw (le-ltb _ _ (c .before .before .before .if1 .left), lt-leb _ _ (c .before .before .if2 .left), le-ltb _ _ (c .before .if3 .left), le-leb _ _ (c .if4 .taken)), omega arith)
+returns-4 c = let b = c .before .before .before .before .args .b in (rw (le-ltb b 48 (omega arith), lt-leb b 57 (omega arith), le-ltb b 65 (omega arith), le-leb b 70 (omega arith)), omega arith)
 
 returns-5 : tie.Need-returns-5
 unfolding digit
-returns-5 c = (rw (le-ltb _ _ (c .before .before .before .before .if1 .left), lt-leb _ _ (c .before .before .before .if2 .left), le-ltb _ _ (c .before .before .if3 .left), lt-leb _ _ (c .before .if4 .left), lt-ltb _ _ (c .if5 .taken)), omega arith)
+returns-5 c = let b = c .before .before .before .before .before .args .b in (rw (le-ltb b 48 (omega arith), lt-leb b 57 (omega arith), le-ltb b 65 (omega arith), lt-leb b 70 (omega arith), lt-ltb b 97 (omega arith)), omega arith)
 
 returns-6 : tie.Need-returns-6
 unfolding digit
-returns-6 c = (rw (le-ltb _ _ (c .before .before .before .before .before .if1 .left), lt-leb _ _ (c .before .before .before .before .if2 .left), le-ltb _ _ (c .before .before .before .if3 .left), lt-leb _ _ (c .before .before .if4 .left), le-ltb _ _ (c .before .if5 .left), le-leb _ _ (c .if6 .taken)), omega arith)
+returns-6 c = let b = c .before .before .before .before .before .before .args .b in (rw (le-ltb b 48 (omega arith), lt-leb b 57 (omega arith), le-ltb b 65 (omega arith), lt-leb b 70 (omega arith), le-ltb b 97 (omega arith), le-leb b 102 (omega arith)), omega arith)
 
 returns-7 : tie.Need-returns-7
 unfolding digit
-returns-7 c = (rw (le-ltb _ _ (c .before .before .before .before .before .if1 .left), lt-leb _ _ (c .before .before .before .before .if2 .left), le-ltb _ _ (c .before .before .before .if3 .left), lt-leb _ _ (c .before .before .if4 .left), le-ltb _ _ (c .before .if5 .left), lt-leb _ _ (c .if6 .left)), omega arith)
+returns-7 c = let b = c .before .before .before .before .before .before .args .b in (rw (le-ltb b 48 (omega arith), lt-leb b 57 (omega arith), le-ltb b 65 (omega arith), lt-leb b 70 (omega arith), le-ltb b 97 (omega arith), lt-leb b 102 (omega arith)), omega arith)
 
 pub digit-spec : {M : Type 1} → statement M
 digit-spec =

@@ -1,4 +1,5 @@
 -- `script::fraction` meets its contract: the tests are the definition's. Assumes nothing.
+use native.Mathlib.Omega.{arith}
 use borrow.Author.Tests.{lt-ltb, le-ltb}
 use Rattle.script.specs.Reals.{fraction}
 use borrow.Author.Needs.{needs}
@@ -17,7 +18,7 @@ returns c = rw (c .enum-told .given .1)
 
 returns-2 : tie.Need-returns-2
 unfolding fraction
-returns-2 c = rw (c .before .before .all .given .1, lt-ltb _ _ (c .if1 .taken))
+returns-2 c = rw (c .before .before .all .given .1, lt-ltb 15 (c .before .before .before .before .args .digits) (omega arith))
 
 whole-requires : tie.Need-whole-requires
 whole-requires c κs = search needs
@@ -30,7 +31,7 @@ whole-requires-2 c κs = search needs
 
 returns-3 : tie.Need-returns-3
 unfolding fraction
-returns-3 c = rw (c .before .before .before .before .before .all .given .1, le-ltb _ _ (c .before .before .before .if1 .left), c .before .before .whole .ensures, c .whole2 .ensures, c .before .ten-to .ensures)
+returns-3 c = rw (c .before .before .before .before .before .all .given .1, le-ltb 15 (c .before .before .before .before .before .before .before .args .digits) (omega arith), c .before .before .whole .ensures, c .whole2 .ensures, c .before .ten-to .ensures)
 
 pub fraction-spec : {M : Type 1} → statement M
 fraction-spec =

@@ -1,7 +1,6 @@
 -- `script::is_blank` meets its contract: each arm is a test of the definition. Assumes nothing.
 use borrow.Author.Tests.{eq-eqb, ne-eqb}
 use Rattle.script.specs.Words.{is-blank}
-use borrow.Author.Needs.{needs}
 use Rattle.script.proofs.is_blank.Statement.{statement}
 use Rattle.script.proofs.is_blank.Tie as tie
 

@@ -1,5 +1,5 @@
 -- `script::next_word` meets its contract: a place behind the end counts as the end, and two runs follow. Assumes nothing.
-use Rattle.script.specs.Words.{run, next-word}
+use Rattle.script.specs.Words.{next-word}
 use borrow.Author.Needs.{needs}
 use Rattle.script.proofs.next_word.Statement.{statement}
 use Rattle.script.proofs.next_word.Tie as tie

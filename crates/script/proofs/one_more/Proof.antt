@@ -1,5 +1,4 @@
 -- `script::one_more` meets its contract: n is at most (2^64 - 1 - d) / base exactly where n * base + d stays below 2^64. Assumes nothing.
-use mathlib.Core.Path.{_≡_}
 use Prim.Native.Nat.{ℕ, _+_, _-_, _*_, _/_, _^_, _≤_, _<_}
 use native.Mathlib.Nat.{le-div-iff-mul-le, div-lt-iff-lt-mul}
 use native.Mathlib.Omega.{arith}
@@ -21,7 +20,7 @@ digit-requires c κs = search needs
 
 returns : tie.Need-returns
 unfolding more
-returns c = rw (← c .before .digit .ensures .0, le-ltb _ _ (c .if1 .taken))
+returns c = rw (← c .before .digit .ensures .0, le-ltb (c .before .digit .result) (c .before .before .args .base) (omega arith))
 
 sub-if2 : tie.Need-sub-if2
 sub-if2 c = search needs
@@ -31,7 +30,7 @@ div-if2 c = search needs
 
 returns-2 : tie.Need-returns-2
 unfolding more
-returns-2 c = rw (← c .before .before .digit .ensures .0, lt-ltb _ _ (c .before .if1 .left), le-ltb _ _ (full _ _ _ (search needs) (search needs) (c .if2 .taken)))
+returns-2 c = rw (← c .before .before .digit .ensures .0, lt-ltb (c .before .before .digit .result) (c .before .before .before .args .base) (omega arith), le-ltb _ _ (full _ _ _ (search needs) (search needs) (c .if2 .taken)))
 
 mul-t6 : tie.Need-mul-t6
 mul-t6 c = let k = room _ _ _ (search needs) (search needs) (c .if2 .left) in omega arith
@@ -41,7 +40,7 @@ add-t7 c = let k = room _ _ _ (search needs) (search needs) (c .if2 .left) in om
 
 returns-3 : tie.Need-returns-3
 unfolding more
-returns-3 c = rw (← c .before .before .digit .ensures .0, lt-ltb _ _ (c .before .if1 .left), lt-ltb _ _ (room _ _ _ (search needs) (search needs) (c .if2 .left)))
+returns-3 c = rw (← c .before .before .digit .ensures .0, lt-ltb (c .before .before .digit .result) (c .before .before .before .args .base) (omega arith), lt-ltb _ _ (room _ _ _ (search needs) (search needs) (c .if2 .left)))
 
 pub one-more-spec : {M : Type 1} → statement M
 one-more-spec =

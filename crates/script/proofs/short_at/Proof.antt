@@ -1,4 +1,6 @@
 -- `script::short_at` meets its contract: the tests are the definition's. Assumes nothing.
+use Prim.Native.Nat.{_^_}
+use native.Mathlib.Omega.{arith}
 use borrow.Author.Tests.{lt-ltb, le-ltb}
 use Rattle.script.specs.Next.{short-of, short-in}
 use borrow.Author.Needs.{needs}
@@ -23,11 +25,11 @@ cast-t8 c = search needs
 
 returns-2 : tie.Need-returns-2
 unfolding short-in short-of
-returns-2 c = rw (← c .before .before .before .before .long-at .ensures, c .before .before .n .given .1, lt-ltb _ _ (c .if1 .taken))
+returns-2 c = rw (← c .before .before .before .before .long-at .ensures, c .before .before .n .given .1, lt-ltb (c .before .before .n .given .0 .0) (2 ^ 32) (omega arith))
 
 returns-3 : tie.Need-returns-3
 unfolding short-in short-of
-returns-3 c = rw (← c .before .before .before .before .long-at .ensures, c .before .before .n .given .1, le-ltb _ _ (c .if1 .left))
+returns-3 c = rw (← c .before .before .before .before .long-at .ensures, c .before .before .n .given .1, le-ltb (c .before .before .n .given .0 .0) (2 ^ 32) (omega arith))
 
 pub short-at-spec : {M : Type 1} → statement M
 short-at-spec =

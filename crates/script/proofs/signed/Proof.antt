@@ -1,4 +1,5 @@
 -- `script::signed` meets its contract: the tests are the definition's, and the slice behind a sign is the rest of the word. Assumes nothing.
+use lib.ListN.{getD}
 use borrow.Author.Tests.{eq-eqb, ne-eqb}
 use Rattle.script.specs.Reals.{signed-of, negated}
 use Rattle.script.proofs.Rest.{rest}
@@ -33,18 +34,18 @@ enum-told c = search needs
 
 returns-2 : tie.Need-returns-2
 unfolding signed-of negated
-returns-2 c = rw (ne-eqb _ _ (c .before .before .before .before .before .before .if1 .left), eq-eqb _ _ (c .before .before .before .before .if2 .taken), ← rest 1 (c .before .before .before .before .before .before .before .before .args .word .now), ← c .before .before .unsigned .ensures, c .enum-told .given .1)
+returns-2 c = rw (ne-eqb _ _ (c .before .before .before .before .before .before .if1 .left), eq-eqb (getD (c .before .before .before .before .before .before .before .before .args .word .now) 0 0) 45 (c .before .before .before .before .if2 .taken), ← rest 1 (c .before .before .before .before .before .before .before .before .args .word .now), ← c .before .before .unsigned .ensures, c .enum-told .given .1)
 
 returns-3 : tie.Need-returns-3
 unfolding signed-of negated
-returns-3 c = rw (ne-eqb _ _ (c .before .before .before .before .before .before .before .if1 .left), eq-eqb _ _ (c .before .before .before .before .before .if2 .taken), ← rest 1 (c .before .before .before .before .before .before .before .before .before .args .word .now), ← c .before .before .before .unsigned .ensures, c .before .size .given .1)
+returns-3 c = rw (ne-eqb _ _ (c .before .before .before .before .before .before .before .if1 .left), eq-eqb (getD (c .before .before .before .before .before .before .before .before .before .args .word .now) 0 0) 45 (c .before .before .before .before .before .if2 .taken), ← rest 1 (c .before .before .before .before .before .before .before .before .before .args .word .now), ← c .before .before .before .unsigned .ensures, c .before .size .given .1)
 
 unsigned-requires-2 : tie.Need-unsigned-requires-2
 unsigned-requires-2 c κs = search needs
 
 returns-4 : tie.Need-returns-4
 unfolding signed-of
-returns-4 c = rw (ne-eqb _ _ (c .before .before .before .if1 .left), ne-eqb _ _ (c .before .if2 .left)) (c .unsigned2 .ensures)
+returns-4 c = rw (ne-eqb _ _ (c .before .before .before .if1 .left), ne-eqb (getD (c .before .before .before .before .before .args .word .now) 0 0) 45 (c .before .if2 .left)) (c .unsigned2 .ensures)
 
 pub signed-spec : {M : Type 1} → statement M
 signed-spec =

@@ -1,6 +1,12 @@
 -- `started` drains, which changes neither the tallies nor who is in flight, so there is still a number and a slot for the transfer. Assumes nothing.
 use borrow.Author.Needs.{needs}
-use Rattle.submission.proofs.Unmoved.{still-counted, still-in-flight}
+use native.Mathlib.Omega.{arith}
+use mathlib.Core.Path.{_≡_, ap, _∙_}
+use Rattle.rules.specs.declared.Tally.{Tally}
+use Rattle.rules.specs.declared.Flows.{Flows}
+use Rattle.rules.specs.Records.{num-in-flight, tally-of, on-tally}
+use Rattle.rules.specs.Calls.{count-submitted}
+use Rattle.submission.proofs.Unmoved.{still-counted, still-in-flight, counted-in-flight}
 use Rattle.submission.specs.Started.{started}
 use Rattle.submission.proofs.started.Statement.{statement}
 use Rattle.submission.proofs.started.Tie as tie
@@ -9,17 +15,29 @@ drain-to-requires : tie.Need-drain-to-requires
 drain-to-requires c κs = search needs
 
 submitted-requires : tie.Need-submitted-requires
-submitted-requires c κs = rw (c .drain-to .ensures .0, still-counted (c .before .pre .0) (c .before .pre .1 .0) (c .before .pre .1 .1 .0)) (c .before .pre .1 .1 .1 .1)
+submitted-requires c κs =
+    let entry = c .before in
+    let same = ap (λ (f : Flows). tally-of (entry .args .transfer .owner) (f .totals) .submitted) (c .drain-to .ensures .0) in
+    let still = ap (λ (y : Tally). y .submitted) (still-counted (entry .pre .0) (entry .pre .1 .0) (entry .pre .1 .1 .0) (entry .args .transfer .owner)) in
+    omega (arith, same, still, entry .pre .1 .1 .1 .1)
 
 inserted-requires : tie.Need-inserted-requires
-inserted-requires c κs = rw (c .submitted .ensures, c .before .drain-to .ensures .0, still-in-flight (c .before .before .pre .0) (c .before .before .pre .1 .0) (c .before .before .pre .1 .1 .0)) (c .before .before .pre .1 .1 .1 .0)
+inserted-requires c κs =
+    let entry = c .before .before in
+    let counted = ap num-in-flight (c .submitted .ensures) ∙ counted-in-flight _ _ _ in
+    let drained = ap num-in-flight (c .before .drain-to .ensures .0) ∙ still-in-flight (entry .pre .0) (entry .pre .1 .0) (entry .pre .1 .1 .0) in
+    omega (arith, counted, drained, entry .pre .1 .1 .1 .0)
 
 made-stale-requires : tie.Need-made-stale-requires
 made-stale-requires c κs = search needs
 
 returns : tie.Need-returns
 unfolding started
-returns c = rw (c .made-stale .ensures, c .before .inserted .ensures, c .before .before .submitted .ensures, c .before .before .before .drain-to .ensures .0)
+returns c =
+    let args = c .before .before .before .before .args in
+    let drained = c .before .before .before .drain-to in
+    let counted : c .before .before .submitted .result ≡ on-tally (args .transfer .owner) (count-submitted (args .bytes)) (drained .result) = c .before .before .submitted .ensures in
+    rw (c .made-stale .ensures, c .before .inserted .ensures, ← drained .ensures .0, ← counted)
 
 pub started-spec : {M : Type 1} → statement M
 started-spec =
