@@ -16,6 +16,11 @@ pub(super) fn cases() -> Vec<String> {
     b.expect("take_completed 0 3 2", "nothing");
     b.say("dump");
     case_15(b);
+    b.begin("two less three thirds, crossing by crossing, is not quite one");
+    b.all(&["add_edge 1", "add_edge 2", "submit 0 0 0 100 0 - 0 2 0 1", "submit 1 0 0 100 0 - 0 2 0 1"]);
+    b.all(&["submit 2 0 0 100 0 - 0 2 0 1", "submit 3 0 0 100 0 - 0 1 1"]);
+    b.expect("rate 3", "value 3ff0000000000001");
+    b.say("dump");
     book.lines
 }
 
