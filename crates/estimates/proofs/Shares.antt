@@ -9,6 +9,7 @@ use lib.ListN.{length, getD}
 use lib.Ieee.{Float}
 use Rattle.doubles.specs.Doubles.{_⊘_, smaller, whole, infinity}
 use Rattle.rules.specs.declared.Cap.{Cap}
+use Rattle.rules.specs.declared.Edge.{Edge}
 use Rattle.rules.specs.declared.Flows.{Flows}
 use Rattle.rules.specs.Lists.{any}
 use Rattle.rules.specs.Records.{no-edge, takes-part}
@@ -19,7 +20,11 @@ use Rattle.paths.specs.Known.{Known}
 use Rattle.crossings.specs.Loads.{loads-by}
 use Rattle.crossings.proofs.Loads.{loads-at}
 use Rattle.keeps.proofs.Placing.{known-by}
-use Rattle.estimates.specs.Shares.{share-by, least-by}
+use Rattle.estimates.specs.Shares.{share-by}
+
+-- The smallest of the shares along a path and a first one.
+abbrev pub least-by : List Edge → List ℕ → Float → List ℕ → Float
+least-by edges load first path = foldl (λ least e. smaller least (share-by edges load e)) first path
 
 module _ (f : Flows) where
   share-is : (e : ℕ) → e < 64 → share-by (f .edges) (loads-by takes-part (f .«in_flight»)) e ≡ new-share f e

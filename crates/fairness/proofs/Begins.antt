@@ -18,7 +18,8 @@ use Rattle.rules.specs.Lists.{sum, crossings}
 use Rattle.rules.specs.Records.{no-edge, free, takes-part}
 use Rattle.rules.specs.Filling.{Filling, lone-rate, entered, seat, start, load}
 use Rattle.rules.specs.Fair.{in-demand}
-use Rattle.fairness.specs.Ready.{no-seat, seat-at, KeepsPath}
+use Rattle.fairness.specs.Ready.{no-seat, seat-at}
+use Rattle.fairness.proofs.Reading.{KeepsPath}
 use Rattle.rules.proofs.Counting.{count-all}
 use Rattle.fairness.proofs.Choice.{left-of, load-of}
 use Rattle.fairness.proofs.Start.{Enters, seat-enters, start-seat, start-edges}

@@ -7,13 +7,14 @@ use lib.ListN.{getD}
 use Rattle.rules.specs.declared.Cap.the-variants.{AtMost}
 use Rattle.rules.specs.declared.Flows.{Flows}
 use Rattle.rules.specs.Records.{free, path-of}
-use Rattle.rules.specs.Fair.{in-demand, FairFilling}
+use Rattle.rules.specs.Fair.{in-demand}
 use Rattle.rules.specs.Invariant.{Invariant}
+use Rattle.rules.specs.Promises.{AlwaysFair}
 use Rattle.fairness.proofs.Ended.{Explains}
 use Rattle.fairness.proofs.Filled.{filled-fair, filled-explained}
 use Rattle.fairness.proofs.Rates.{rated, fillable}
 
-pub fair-filling : (f : Flows) → Invariant f → FairFilling f
+pub fair-filling : AlwaysFair
 fair-filling f inv = filled-fair (fillable f inv)
 
 -- why nobody is faster: everybody of the demand runs at its cap, or crosses an edge that explains its rate

@@ -18,7 +18,8 @@ use Rattle.rules.specs.Lists.{count, sum}
 use Rattle.rules.specs.Records.{free, takes-part}
 use Rattle.rules.specs.Filling.{Filling, with-rate, seat, start, freeze, round, num-unfrozen, recompute-rates}
 use Rattle.rules.specs.Fair.{in-demand, Fair}
-use Rattle.fairness.specs.Ready.{no-seat, seat-at, KeepsPath, Ready}
+use Rattle.fairness.specs.Ready.{no-seat, seat-at, Ready}
+use Rattle.fairness.proofs.Reading.{KeepsPath}
 use Rattle.rules.proofs.Counting.{count-kept, count-map, count-most, none-of-count}
 use Rattle.fairness.proofs.Loads.{unfrozen-inside}
 use Rattle.fairness.proofs.Choice.{load-of}

@@ -1,3 +1,4 @@
+pub mod Reading
 pub mod Tightest
 pub mod Loads
 pub mod Choice

@@ -14,7 +14,8 @@ use Rattle.rules.specs.declared.Verdict.{Verdict}
 use Rattle.rules.specs.declared.Verdict.the-variants.{ByCap, ByEdge, ByNobody}
 use Rattle.rules.specs.Filling.{Filling, with-rate, winning-edge, smallest-cap, verdict, rate-by, names, freezes, freeze, round, num-unfrozen, rounds-until}
 use Rattle.rules.proofs.Steps.{length-map-from}
-use Rattle.fairness.specs.Ready.{no-seat, seat-at, KeepsPath, Ready}
+use Rattle.fairness.specs.Ready.{no-seat, seat-at, Ready}
+use Rattle.fairness.proofs.Reading.{KeepsPath}
 use Rattle.rules.proofs.Numbered.{getD-map-all}
 use Rattle.rules.proofs.Counting.{count-drops}
 use Rattle.rules.proofs.Crossings.{crosses-any}

@@ -19,7 +19,8 @@ use Rattle.rules.specs.Lists.{times, crossings}
 use Rattle.rules.specs.Records.{no-edge}
 use Rattle.rules.specs.Filling.{Filling, crossings-frozen, spend, round, num-unfrozen}
 use Rattle.rules.proofs.Steps.{getD-map-from}
-use Rattle.fairness.specs.Ready.{seat-at, KeepsPath, Ready}
+use Rattle.fairness.specs.Ready.{seat-at, Ready}
+use Rattle.fairness.proofs.Reading.{KeepsPath}
 use Rattle.fairness.proofs.Loads.{verdict-decided}
 use Rattle.fairness.proofs.Choice.{left-of, load-of}
 use Rattle.fairness.proofs.Rounds.{verdict-of, rate-of}

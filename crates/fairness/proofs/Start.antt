@@ -16,7 +16,8 @@ use Rattle.rules.specs.Tolerance.{B}
 use Rattle.rules.specs.Records.{free, own-path, path-of, takes-part}
 use Rattle.rules.specs.Filling.{Filling, with-rate, lone-rate, entered, seat, start, num-unfrozen, recompute-rates}
 use Rattle.rules.specs.Invariant.{SoundRoute, SoundTransfer, Invariant}
-use Rattle.fairness.specs.Ready.{seat-at, KeepsPath, Ready}
+use Rattle.fairness.specs.Ready.{seat-at, Ready}
+use Rattle.fairness.proofs.Reading.{KeepsPath}
 use Rattle.fairness.proofs.Rounds.{rounds-bound, in-the-end}
 
 -- ---- seats at the start

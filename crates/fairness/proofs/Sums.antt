@@ -18,7 +18,8 @@ use Rattle.rules.specs.Lists.{sum, map-from, crossings}
 use Rattle.rules.specs.Records.{takes-part, crossings-by}
 use Rattle.rules.specs.Filling.{Filling, with-rate, load, rate-by, freezes, freeze, crossings-frozen, round}
 use Rattle.rules.specs.Fair.{in-demand, k, carried}
-use Rattle.fairness.specs.Ready.{no-seat, KeepsPath}
+use Rattle.fairness.specs.Ready.{no-seat}
+use Rattle.fairness.proofs.Reading.{KeepsPath}
 use Rattle.fairness.proofs.Rounds.{frozen-at, verdict-of, freezes-both}
 
 -- ---- sums of numbered elements

@@ -4,11 +4,10 @@ use mathlib.Core.Path.{_≡_}
 use mathlib.Core.Bool.{true, false}
 use mathlib.Core.List.{List}
 use lib.ListN.{length, getD}
-use lib.Ieee.{Float}
 use Rattle.rules.specs.declared.Transfer.{Transfer}
 use Rattle.rules.specs.declared.Seat.{Seat}
 use Rattle.rules.specs.Records.{free}
-use Rattle.rules.specs.Filling.{Filling, with-rate}
+use Rattle.rules.specs.Filling.{Filling}
 
 -- What is read past the last seat.
 abbrev pub no-seat : Seat
@@ -24,10 +23,6 @@ pub record Rides (n : ℕ) (path : List ℕ) : Type 0 where
   pub known : (k : ℕ) → k < length path → getD path k 0 < n
 
 module _ (path : Transfer → List ℕ) where
-  -- A transfer keeps its path when it is given a rate.
-  abbrev pub KeepsPath : Type 0
-  KeepsPath = (rate : Float) (t : Transfer) → path (with-rate rate t) ≡ path t
-
   -- Whoever is unfrozen has a path over the edges that the filling knows.
   abbrev pub Ready : Filling → Type 0
   Ready f = (i : ℕ) → seat-at f i .unfrozen ≡ true → Rides (length (f .residual)) (path (seat-at f i .transfer))
