@@ -13,7 +13,7 @@ use Rattle.doubles.proofs.Binary64.{whole-plain, times-nonneg}
 use Rattle.doubles.proofs.Ordered.{exact→le}
 use Rattle.doubles.proofs.Left.{difference-under}
 use Rattle.doubles.proofs.Signs.{plain-nonneg, difference-le-plain}
-use Rattle.doubles.proofs.Chosen.{smaller-first-plain, smaller-first-under, smaller-second-plain, smaller-second-under, rest-first-plain, rest-second-plain}
+use Rattle.doubles.proofs.Chosen.{smaller-first-plain, smaller-second-plain, smaller-second-under, rest-first-plain, rest-second-plain}
 use Rattle.rules.specs.declared.Transfer.{Transfer}
 use Rattle.rules.specs.declared.Flows.{Flows}
 use Rattle.rules.specs.Clock.{latency-paid, flowing-time, moves, bytes-flowing, drained}
@@ -58,10 +58,6 @@ module _ {f : Flows} {t : Transfer} {until : Float} (s : SoundTransfer f t) (p :
   pub latency-plain : Plain (t .«latency_remaining» ⊖ latency-paid until t)
   unfolding latency-paid
   latency-plain = rest-first-plain (s .latency) (plain-nonneg since)
-
-  pub latency-falls : T (t .«latency_remaining» ⊖ latency-paid until t ≼ t .«latency_remaining»)
-  unfolding latency-paid
-  latency-falls = exact→le latency-plain (s .latency) (difference-under (s .latency) paid-plain (smaller-first-under (s .latency) (plain-nonneg since)))
 
   pub flowing-plain : Plain (flowing-time until t)
   unfolding flowing-time latency-paid
