@@ -27,15 +27,15 @@ pub fn calls(script: &str) -> Vec<String> {
     script.lines().filter(answered).map(|line| without_remark(line).to_string()).collect()
 }
 
-/// None where the programs agree on every answer.
-pub fn compare(left: &Program, right: &Program, lines: &[String]) -> Result<Option<Difference>, String> {
+/// None where the programs agree on every answer. A difference is shrunk for so many seconds at the most.
+pub fn compare(left: &Program, right: &Program, lines: &[String], shrinking: u64) -> Result<Option<Difference>, String> {
     let Some(at) = first_difference(left, right, lines)? else { return Ok(None) };
     let start = lines[..at].iter().rposition(|line| is_new(line)).map_or(0, |new| new + 1);
     let sequence = lines[start..(at + 1).min(lines.len())].to_vec();
     let alone = differing(left, right, std::slice::from_ref(&sequence))?;
     // What differs only after earlier sequences is shown whole.
     let found = match alone {
-        Some(_) => shrink(left, right, sequence)?,
+        Some(_) => shrink(left, right, sequence, Instant::now() + Duration::from_secs(shrinking))?,
         None => lines[..(at + 1).min(lines.len())].to_vec(),
     };
     let lines: Vec<String> = [vec!["new".to_string()], found].concat();
@@ -53,29 +53,41 @@ fn first_difference(left: &Program, right: &Program, lines: &[String]) -> Result
     Ok((0..a.len().max(b.len()).max(lines.len())).find(|i| a.get(*i) != b.get(*i) || a.get(*i).is_none()))
 }
 
-/// Takes out parts, then smaller parts, as long as the rest still differs.
-fn shrink(left: &Program, right: &Program, mut sequence: Vec<String>) -> Result<Vec<String>, String> {
-    let mut parts = 2;
-    while sequence.len() > 1 {
-        let size = sequence.len().div_ceil(parts);
-        let without = |part: usize| {
-            let gone = part * size..(part + 1) * size;
-            sequence.iter().enumerate().filter(|(i, _)| !gone.contains(i)).map(|(_, line)| line.clone()).collect()
-        };
-        let candidates: Vec<Vec<String>> = (0..sequence.len().div_ceil(size)).map(without).collect();
-        match differing(left, right, &candidates)? {
-            Some(found) => {
-                sequence = candidates[found].clone();
-                parts = parts.saturating_sub(1).max(2);
+/// Lines to one run while shrinking: a program may be slow to start, and what comes after the first difference is for nothing.
+const LINES_TO_A_RUN: usize = 5000;
+
+/// Takes out parts, then smaller parts, as long as the rest still differs and there is time.
+fn shrink(left: &Program, right: &Program, mut sequence: Vec<String>, end: Instant) -> Result<Vec<String>, String> {
+    let mut size = sequence.len().div_ceil(2);
+    loop {
+        let before = sequence.len();
+        let mut from = 0;
+        while from < sequence.len() {
+            if Instant::now() > end {
+                return Ok(sequence);
             }
-            None if size == 1 => break,
-            None => parts = (2 * parts).min(sequence.len()),
+            let starts = (from..sequence.len()).step_by(size).take((LINES_TO_A_RUN / sequence.len()).max(1));
+            let candidates: Vec<Vec<String>> = starts.map(|start| without(&sequence, start, size)).collect();
+            match differing(left, right, &candidates)? {
+                Some(found) => {
+                    from += found * size;
+                    sequence = candidates[found].clone();
+                }
+                None => from += candidates.len() * size,
+            }
         }
+        if size == 1 && sequence.len() == before {
+            return Ok(sequence);
+        }
+        size = size.div_ceil(2);
     }
-    Ok(sequence)
 }
 
-/// The first candidate on which the programs differ. All are tried in one run, since a program may be slow to start.
+fn without(sequence: &[String], start: usize, size: usize) -> Vec<String> {
+    [&sequence[..start], &sequence[(start + size).min(sequence.len())..]].concat()
+}
+
+/// The first candidate on which the programs differ, all tried in one run.
 fn differing(left: &Program, right: &Program, candidates: &[Vec<String>]) -> Result<Option<usize>, String> {
     let script: Vec<String> = candidates.iter().flat_map(|lines| with_new(lines)).collect();
     let (a, b) = (left.run(&script)?, right.run(&script)?);

@@ -1,4 +1,4 @@
-//! compare [--seconds N] LEFT RIGHT SCRIPT: two commands on one script.
+//! compare [--seconds N] [--shrinking N] LEFT RIGHT SCRIPT: two commands on one script.
 //! Ends with 0 where every answer is the same, 1 with a shrunk sequence where not, 2 where something could not be run.
 
 use tools::compare::{calls, compare, Difference, Program};
@@ -6,18 +6,15 @@ use tools::give_up;
 
 fn main() {
     let mut words: Vec<String> = std::env::args().skip(1).collect();
-    let mut seconds = 600;
-    if words.first().is_some_and(|word| word == "--seconds") {
-        seconds = words.get(1).and_then(|n| n.parse().ok()).unwrap_or_else(|| give_up("compare: --seconds takes a number"));
-        words.drain(..2);
-    }
+    let seconds = option(&mut words, "--seconds", 600);
+    let shrinking = option(&mut words, "--shrinking", 60);
     let [left, right, file] = words.as_slice() else {
-        give_up("usage: compare [--seconds N] LEFT RIGHT SCRIPT");
+        give_up("usage: compare [--seconds N] [--shrinking N] LEFT RIGHT SCRIPT");
     };
     let text = std::fs::read(file).unwrap_or_else(|e| give_up(&format!("compare: {file}: {e}")));
     let lines = calls(&String::from_utf8_lossy(&text));
     let program = |command: &String| Program { command: command.clone(), seconds };
-    match compare(&program(left), &program(right), &lines) {
+    match compare(&program(left), &program(right), &lines, shrinking) {
         Err(why) => give_up(&format!("compare: {why}")),
         Ok(None) => println!("same: {} calls", lines.len()),
         Ok(Some(difference)) => {
@@ -25,6 +22,16 @@ fn main() {
             std::process::exit(1);
         }
     }
+}
+
+/// Takes an option and its number off the front of the words.
+fn option(words: &mut Vec<String>, name: &str, default: u64) -> u64 {
+    if words.first().is_none_or(|word| word != name) {
+        return default;
+    }
+    let number = words.get(1).and_then(|n| n.parse().ok()).unwrap_or_else(|| give_up(&format!("compare: {name} takes a number")));
+    words.drain(..2);
+    number
 }
 
 fn show(difference: &Difference, left: &str, right: &str) {
