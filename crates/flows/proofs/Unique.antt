@@ -32,8 +32,8 @@ use Rattle.totals.proofs.contains.Reads as contains
 use Rattle.totals.proofs.contains.Kinds as contains-kinds
 use Rattle.advance.proofs.advance.Reads as advance
 use Rattle.advance.proofs.advance.Kinds as advance-kinds
-use Rattle.lists.proofs.take_completed.Reads as take-completed
-use Rattle.lists.proofs.take_completed.Kinds as take-completed-kinds
+use Rattle.collecting.proofs.take_completed.Reads as take-completed
+use Rattle.collecting.proofs.take_completed.Kinds as take-completed-kinds
 use Rattle.lists.proofs.owners_with_completions.Reads as owners-with-completions
 use Rattle.lists.proofs.owners_with_completions.Kinds as owners-with-completions-kinds
 use Rattle.totals.proofs.now.Reads as reads-now

@@ -20,10 +20,10 @@ pub use totals::Counts;
 
 // ---- calls
 pub use advance::advance;
+pub use collecting::take_completed;
 pub use edits::add_edge;
 pub use edits::cancel;
 pub use edits::widen;
-pub use lists::take_completed;
 pub use submission::submit;
 pub use submission::submit_capped;
 

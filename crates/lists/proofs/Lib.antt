@@ -1,5 +1,2 @@
-pub mod Fronts
-pub mod Chosen
 pub mod Adjacent
-pub mod Taking
-pub mod Kept
+pub mod Listing

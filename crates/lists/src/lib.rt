@@ -1,19 +1,15 @@
-// The lists that are written into a lent buffer: what is done, what an owner collects, and who has something to collect.
-use queue::Table;
+// The lists that are written into a lent buffer and change nothing: what is done, and who has something to collect.
 use rules::Answer;
 use rules::Completion;
 use rules::Flows;
-use rules::Outcome;
-use rules::Owner;
 ghost use mathlib.Core.Path.{_≡_};
-ghost use mathlib.Core.Bool.{not};
-ghost use mathlib.Core.List.{map};
-ghost use Prim.Native.Nat.{_≤_, _*_};
-ghost use lib.ListN.{length, take};
-ghost use Rattle.rules.specs.Lists.{count, those, write-front};
-ghost use Rattle.rules.specs.Queue.{triples, belongs, owners, pairs, take-completed, owners-with-completions};
+ghost use Prim.Native.Nat.{_≤_, _<_, _+_, _*_};
+ghost use lib.ListN.{length, take, drop, getD};
+ghost use Rattle.rules.specs.Lists.{any, write-front};
+ghost use Rattle.rules.specs.Records.{no-completion};
+ghost use Rattle.rules.specs.Queue.{triples, belongs, owners, pairs, owners-with-completions};
 ghost use Rattle.rules.specs.Invariant.{Invariant};
-ghost use Rattle.queue.specs.Tables.{table-of, InOrder};
+ghost use Rattle.queue.specs.Tables.{InOrder};
 
 // ---- the list of an advance
 
@@ -37,111 +33,6 @@ pub fn write_triples(list: [Completion; 256], n: usize, out: &mut [u32])
     }
 }
 
-// ---- collecting
-
-// An owner collects what waits for it: its ids are written, and they wait no longer.
-pub fn take_completed(flows: Flows, owner: Owner, out: &mut [u32]) -> Outcome
-    requires { ⌜ Invariant flows ⌝ }
-    ensures exactly { λ r. ⌜ r ≡ take-completed owner flows (now (out .entry)) .outcome ⌝ }
-    ensures buffer { λ r. ⌜ now (out .exit) ≡ take-completed owner flows (now (out .entry)) .buffer ⌝ }
-    ensures sound { λ r. ⌜ Invariant (r .flows) ⌝ }
-{
-    let completed = flows.completed;
-    let n = flows.num_completed;
-    let waiting = num_waiting(completed, n, owner);
-    if waiting == 0 {
-        return Outcome {
-            answer: Answer::Nothing,
-            flows: flows,
-        };
-    }
-    if out.len() < waiting {
-        return Outcome {
-            answer: Answer::Refused(8),
-            flows: flows,
-        };
-    }
-    write_ids(completed, n, owner, out);
-    let left = without(completed, n, owner);
-    let entries = left.entries;
-    let mut next = flows;
-    next.completed = entries;
-    next.num_completed = left.count;
-    Outcome {
-        answer: Answer::Listed(waiting),
-        flows: next,
-    }
-}
-
-// How many of the first n entries wait for an owner.
-fn num_waiting(completed: [Completion; 256], n: usize, owner: Owner) -> usize
-    requires { ⌜ n ≤ 256 ⌝ }
-    ensures { λ r. ⌜ r ≡ count (belongs owner) (take n completed) ⌝ }
-{
-    let mut waiting: usize = 0;
-    let mut i: usize = 0;
-    while i < n {
-        let c = completed[i];
-        if belongs(owner, c) {
-            waiting += 1;
-        }
-        i += 1;
-    }
-    waiting
-}
-
-// Whether a completion is the owner's.
-fn belongs(owner: Owner, c: Completion) -> bool
-    ensures { λ r. ⌜ r ≡ belongs owner c ⌝ }
-{
-    let other = c.owner;
-    queue::same_owner(owner, other)
-}
-
-// The owner's ids at the front of the buffer, in the order of the table.
-fn write_ids(completed: [Completion; 256], n: usize, owner: Owner, out: &mut [u32])
-    requires { ⌜ n ≤ 256 ⌝ }
-    requires { do ⌜ count (belongs owner) (take n completed) ≤ (← ⟦out.len()⟧) ⌝ }
-    ensures { λ _. ⌜ now (out .exit) ≡ write-front (map (λ c. c .id) (those (belongs owner) (take n completed))) (now (out .entry)) ⌝ }
-{
-    let mut k: usize = 0;
-    let mut i: usize = 0;
-    while i < n {
-        let c = completed[i];
-        if belongs(owner, c) {
-            out[k] = c.id;
-            k += 1;
-        }
-        i += 1;
-    }
-}
-
-// The table without the owner's entries: the others close up, with blanks behind.
-fn without(completed: [Completion; 256], n: usize, owner: Owner) -> Table
-    requires { ⌜ n ≤ 256 ⌝ }
-    ensures { λ r. ⌜ r ≡ table-of (those (λ c. not (belongs owner c)) (take n completed)) ⌝ }
-{
-    let none = Completion {
-        owner: Owner::Handoff,
-        id: 0,
-    };
-    let mut entries = [none; 256];
-    let mut k: usize = 0;
-    let mut i: usize = 0;
-    while i < n {
-        let c = completed[i];
-        if !belongs(owner, c) {
-            entries[k] = c;
-            k += 1;
-        }
-        i += 1;
-    }
-    Table {
-        entries: entries,
-        count: k,
-    }
-}
-
 // ---- who can collect
 
 // The owners with something to collect, workers by ascending number, then hand-off, then write; nothing is collected.
@@ -160,7 +51,25 @@ pub fn owners_with_completions(flows: Flows, out: &mut [u32]) -> Answer
     Answer::Listed(found)
 }
 
-// How many owners have entries: each is counted at its last one, whose follower has another owner.
+// Whether an owner comes again behind its entry i: in a table that is in order, whether the next entry is the owner's too.
+fn comes_again(completed: [Completion; 256], n: usize, i: usize) -> bool
+    requires { ⌜ n ≤ 256 ⌝ }
+    requires { ⌜ i < n ⌝ }
+    requires { ⌜ InOrder n completed ⌝ }
+    ensures { λ r. ⌜ r ≡ any (belongs (getD completed i no-completion .owner)) (drop (i + 1) (take n completed)) ⌝ }
+{
+    let j = i + 1;
+    if n <= j {
+        return false;
+    }
+    let c = completed[i];
+    let o = c.owner;
+    let d = completed[j];
+    let next = d.owner;
+    queue::same_owner(o, next)
+}
+
+// How many owners have entries: each is counted at its last one.
 fn num_owners(completed: [Completion; 256], n: usize) -> usize
     requires { ⌜ n ≤ 256 ⌝ }
     requires { ⌜ InOrder n completed ⌝ }
@@ -169,19 +78,10 @@ fn num_owners(completed: [Completion; 256], n: usize) -> usize
     let mut found: usize = 0;
     let mut i: usize = 0;
     while i < n {
-        let c = completed[i];
-        let o = c.owner;
-        let j = i + 1;
-        let mut repeated = false;
-        if j < n {
-            let d = completed[j];
-            let next = d.owner;
-            repeated = queue::same_owner(o, next);
-        }
-        if !repeated {
+        if !comes_again(completed, n, i) {
             found += 1;
         }
-        i = j;
+        i += 1;
     }
     found
 }
@@ -196,22 +96,15 @@ fn write_owners(completed: [Completion; 256], n: usize, out: &mut [u32])
     let mut k: usize = 0;
     let mut i: usize = 0;
     while i < n {
-        let c = completed[i];
-        let o = c.owner;
-        let j = i + 1;
-        let mut repeated = false;
-        if j < n {
-            let d = completed[j];
-            let next = d.owner;
-            repeated = queue::same_owner(o, next);
-        }
-        if !repeated {
+        if !comes_again(completed, n, i) {
+            let c = completed[i];
+            let o = c.owner;
             let kind = queue::owner_kind(o);
             let worker = queue::owner_worker(o);
             out[k] = kind;
             out[k + 1] = worker;
             k += 2;
         }
-        i = j;
+        i += 1;
     }
 }

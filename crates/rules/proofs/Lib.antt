@@ -8,6 +8,7 @@ pub mod Counting
 pub mod Sums
 pub mod Crossings
 pub mod Folds
+pub mod Fronts
 pub mod Routes
 pub mod Everything
 pub mod Fresh

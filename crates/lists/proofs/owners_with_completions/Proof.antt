@@ -5,7 +5,7 @@ use lib.ListN.{take}
 use Rattle.rules.specs.Records.{waiting}
 use Rattle.queue.proofs.Taken.{length-taken}
 use Rattle.lists.proofs.Adjacent.{owners-few}
-use Rattle.lists.proofs.Taking.{owners-short, owners-all}
+use Rattle.lists.proofs.Listing.{owners-short, owners-all}
 use borrow.Author.Needs.{needs}
 use Rattle.lists.proofs.owners_with_completions.Statement.{statement}
 use Rattle.lists.proofs.owners_with_completions.Tie as tie

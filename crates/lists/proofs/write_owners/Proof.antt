@@ -3,17 +3,17 @@
 use mathlib.Core.Path.{_≡_, refl, sym, ap, _∙_}
 use mathlib.Core.Logic.{⊎-elim}
 use mathlib.Core.Bool.{true, false}
-use mathlib.Core.List.{List}
 use Prim.Native.Nat.{_+_, _-_, _*_, _≤_, _<_}
 use native.Mathlib.Omega.{arith}
 use borrow.Author.Tests.{not-true, not-false}
-use lib.ListN.{length, take, drop, getD, length-set}
-use Rattle.rules.specs.declared.Owner.{Owner}
-use Rattle.rules.specs.Lists.{any, write-front}
-use Rattle.rules.specs.Queue.{belongs, owners, pairs}
+use lib.ListN.{length, take, drop, length-set}
+use Rattle.rules.specs.Lists.{write-front}
+use Rattle.rules.specs.Records.{no-completion}
+use Rattle.rules.specs.Queue.{owners, pairs}
+use Rattle.rules.proofs.Fronts.{written, written-none, written-two}
+use Rattle.rules.proofs.Steps.{getD-any}
 use Rattle.queue.proofs.Taken.{past-end}
-use Rattle.lists.proofs.Fronts.{written, written-none, written-two}
-use Rattle.lists.proofs.Adjacent.{comes-again, comes-last, owners-by, owners-none}
+use Rattle.lists.proofs.Adjacent.{owners-by, owners-none}
 use borrow.Author.Needs.{needs}
 use Rattle.lists.proofs.write_owners.Statement.{statement}
 use Rattle.lists.proofs.write_owners.Tie as tie
@@ -24,34 +24,17 @@ Inv-loop n out₀ completed k₀ i₀ out k i = (i ≤ n) × (k ≤ 2 * i) × (l
 abbrev μ-loop : tie.MeasureT-loop
 μ-loop n out₀ completed k₀ i₀ out k i = n - i
 
--- what the code calls repeated is that the owner comes again
-again : (c : tie.Joined1 Inv-loop μ-loop) → any (belongs (getD (c .before .before .before .before .before .args .t1) (c .before .before .before .loop .i) past-end .owner)) (drop (c .before .before .before .loop .i + 1) (take (c .before .before .before .before .before .args .n) (c .before .before .before .before .before .args .t1))) ≡ c .if1 .repeated
-again c =
-    ⊎-elim
-    (λ w. comes-again (c .before .before .before .before .before .args .t1) (c .before .before .before .before .before .args .n) (c .before .before .before .loop .i) _ (c .before .before .before .before .before .pre .1 .0) (omega arith) (omega arith) ∙ sym (w .2 .ensures) ∙ sym (w .3))
-    (λ w. comes-last (c .before .before .before .before .before .args .t1) (c .before .before .before .before .before .args .n) (c .before .before .before .loop .i) _ (omega arith) ∙ sym (w .1))
-    (c .if1 .came)
-
 loop-holds : tie.Need-loop-holds Inv-loop μ-loop
 loop-holds c = (omega arith, omega arith, refl, omega arith, refl)
+
+comes-again-requires : tie.Need-comes-again-requires Inv-loop μ-loop
+comes-again-requires c κs = (omega arith, (omega arith, c .before .before .before .pre .1 .0))
 
 mul-c : tie.Need-mul-c Inv-loop μ-loop
 mul-c c = search needs
 
 array-copy-out-c : tie.Need-array-copy-out-c Inv-loop μ-loop
 array-copy-out-c c = search needs
-
-add-j : tie.Need-add-j Inv-loop μ-loop
-add-j c = search needs
-
-mul-d : tie.Need-mul-d Inv-loop μ-loop
-mul-d c = search needs
-
-array-copy-out-d : tie.Need-array-copy-out-d Inv-loop μ-loop
-array-copy-out-d c = search needs
-
-same-owner-requires : tie.Need-same-owner-requires Inv-loop μ-loop
-same-owner-requires c κs = search needs
 
 owner-kind-requires : tie.Need-owner-kind-requires Inv-loop μ-loop
 owner-kind-requires c κs = search needs
@@ -64,7 +47,7 @@ mul-out c = search needs
 
 slice-write-out : tie.Need-slice-write-out Inv-loop μ-loop
 slice-write-out c =
-    let one = owners-by (c .before .before .before .before .before .before .before .before .args .t1) (c .before .before .before .before .before .before .before .before .args .n) (c .before .before .before .before .before .before .loop .i) _ false (again (c .before .before .before) ∙ not-true (c .before .before .before .if1 .repeated) (c .before .before .if2 .taken)) (omega arith) (omega arith) in
+    let one = owners-by (c .before .before .before .before .before .before .before .before .args .t1) (c .before .before .before .before .before .before .before .before .args .n) (c .before .before .before .before .before .before .loop .i) no-completion false (sym (c .before .before .before .before .comes-again .ensures) ∙ not-true _ (c .before .before .before .if1 .taken)) (omega arith) (omega arith) in
     omega (arith, ap length one)
 
 add-out : tie.Need-add-out Inv-loop μ-loop
@@ -75,11 +58,14 @@ mul-out-2 c = search needs
 
 slice-write-out-2 : tie.Need-slice-write-out-2 Inv-loop μ-loop
 slice-write-out-2 c =
-    let one = owners-by (c .before .before .before .before .before .before .before .before .args .t1) (c .before .before .before .before .before .before .before .before .args .n) (c .before .before .before .before .before .before .loop .i) _ false (again (c .before .before .before) ∙ not-true (c .before .before .before .if1 .repeated) (c .before .before .if2 .taken)) (omega arith) (omega arith) in
+    let one = owners-by (c .before .before .before .before .before .before .before .before .args .t1) (c .before .before .before .before .before .before .before .before .args .n) (c .before .before .before .before .before .before .loop .i) no-completion false (sym (c .before .before .before .before .comes-again .ensures) ∙ not-true _ (c .before .before .before .if1 .taken)) (omega arith) (omega arith) in
     simp length-set (omega (arith, ap length one))
 
 add-k : tie.Need-add-k Inv-loop μ-loop
 add-k c = search needs
+
+add-i : tie.Need-add-i Inv-loop μ-loop
+add-i c = search needs
 
 loop-less : tie.Need-loop-less Inv-loop μ-loop
 loop-less c = search needs
@@ -87,27 +73,25 @@ loop-less c = search needs
 loop-again : tie.Need-loop-again Inv-loop μ-loop
 unfolding pairs
 loop-again c =
-    let one = owners-by (c .before .before .before .before .before .before .before .before .args .t1) (c .before .before .before .before .before .before .before .before .args .n) (c .before .before .before .before .before .before .loop .i) _ false (again (c .before .before .before) ∙ not-true (c .before .before .before .if1 .repeated) (c .before .before .if2 .taken)) (omega arith) (omega arith) in
-    let room : c .before .before .before .before .before .before .loop .k + 1 < length (c .before .before .before .before .before .before .loop .out) = omega (arith, ap length one) in (
+    ⊎-elim
+    (λ w.
+    let one = owners-by (c .before .before .before .before .before .args .t1) (c .before .before .before .before .before .args .n) (c .before .before .before .loop .i) past-end false (rw (getD-any (c .before .before .before .before .before .args .t1) (c .before .before .before .loop .i) past-end no-completion (omega arith)) (sym (c .before .comes-again .ensures) ∙ not-true _ (w .0 .taken))) (omega arith) (omega arith) in
+    let room : c .before .before .before .loop .k + 1 < length (c .before .before .before .loop .out) = omega (arith, ap length one) in (
       omega arith,
+      omega (arith, w .5),
+      rw (w .4) (simp length-set (c .before .before .before .loop .inv .2)),
+      rw (w .4) (simp length-set (omega (arith, w .5, ap length one))),
+      rw (w .4, w .5, written-two, ← c .before .before .before .loop .inv .4, one, ← w .2 .ensures, ← w .3 .ensures) refl,
+    ))
+    (λ w.
+    let none = owners-by (c .before .before .before .before .before .args .t1) (c .before .before .before .before .before .args .n) (c .before .before .before .loop .i) no-completion true (sym (c .before .comes-again .ensures) ∙ not-false _ (w .0 .left)) (omega arith) (omega arith) in (
       omega arith,
-      simp length-set (c .before .before .before .before .before .before .loop .inv .2),
-      simp length-set (omega (arith, ap length one)),
-      rw (written-two, ← c .before .before .before .before .before .before .loop .inv .4, one, ← c .before .owner-kind .ensures, ← c .owner-worker .ensures) refl,
-    )
-
-loop-less-2 : tie.Need-loop-less-2 Inv-loop μ-loop
-loop-less-2 c = search needs
-
-loop-again-2 : tie.Need-loop-again-2 Inv-loop μ-loop
-loop-again-2 c =
-    let none = owners-by (c .before .before .before .before .before .before .args .t1) (c .before .before .before .before .before .before .args .n) (c .before .before .before .before .loop .i) _ true (again (c .before) ∙ not-false (c .before .if1 .repeated) (c .if2 .left)) (omega arith) (omega arith) in (
-      omega arith,
-      omega arith,
-      c .before .before .before .before .loop .inv .2,
-      omega (arith, ap length none),
-      ap (λ (l : List Owner). written (c .before .before .before .before .loop .k) (pairs l) (c .before .before .before .before .loop .out)) (sym none) ∙ c .before .before .before .before .loop .inv .4,
-    )
+      omega (arith, w .2),
+      rw (w .1) (c .before .before .before .loop .inv .2),
+      rw (w .1) (omega (arith, w .2, ap length none)),
+      rw (w .1, w .2, ← c .before .before .before .loop .inv .4, none) refl,
+    ))
+    (c .if1 .came)
 
 same-length : tie.Need-same-length Inv-loop μ-loop
 same-length c = c .before .loop .inv .2
@@ -123,12 +107,9 @@ write-owners-spec =
     Inv-loop
     μ-loop
     loop-holds
+    comes-again-requires
     mul-c
     array-copy-out-c
-    add-j
-    mul-d
-    array-copy-out-d
-    same-owner-requires
     owner-kind-requires
     owner-worker-requires
     mul-out
@@ -137,9 +118,8 @@ write-owners-spec =
     mul-out-2
     slice-write-out-2
     add-k
+    add-i
     loop-less
     loop-again
-    loop-less-2
-    loop-again-2
     same-length
     returns)

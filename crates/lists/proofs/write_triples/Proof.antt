@@ -6,7 +6,7 @@ use lib.ListN.{length, take, drop, length-set}
 use Rattle.rules.specs.Lists.{write-front}
 use Rattle.rules.specs.Queue.{triples}
 use Rattle.queue.proofs.Taken.{past-end, taken-one, taken-none}
-use Rattle.lists.proofs.Fronts.{written, written-none, written-three}
+use Rattle.rules.proofs.Fronts.{written, written-none, written-three}
 use borrow.Author.Needs.{needs}
 use Rattle.lists.proofs.write_triples.Statement.{statement}
 use Rattle.lists.proofs.write_triples.Tie as tie

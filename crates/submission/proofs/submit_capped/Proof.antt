@@ -16,7 +16,7 @@ use Rattle.keeps.proofs.Refusing.{neither}
 use Rattle.rules.specs.Calls.{submitted-transfer, submit-capped, submitted}
 use Rattle.rules.specs.Refusals.{refusing, not-a-number, not-a-cap, not-a-time, no-such-edge, too-long}
 use Rattle.submission.proofs.Typed.{cap-typed}
-use Rattle.submission.specs.Started.{inserted, started, start}
+use Rattle.starting.specs.Started.{inserted, started, start}
 use Rattle.submission.proofs.submit_capped.Statement.{statement}
 use Rattle.submission.proofs.submit_capped.Tie as tie
 
