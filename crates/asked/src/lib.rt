@@ -2,11 +2,11 @@
 ghost use Prim.Native.Nat.{_≤_};
 ghost use lib.ListN.{length};
 ghost use Rattle.asked.specs.Request.{Within};
+use numbers::Long;
+use numbers::RealWord;
+use numbers::Short;
 use rules::Cap;
 use rules::Owner;
-use script::Long;
-use script::RealWord;
-use script::Short;
 
 // What a line asks for.
 pub enum Ask {
@@ -97,7 +97,7 @@ pub fn read(line: &[u8], path: &mut [u32]) -> Request
     requires { ⌜ 128 ≤ length (now path) ⌝ }
     ensures { λ r. ⌜ Within r ⌝ }
 {
-    let word = script::next_word(line, 0);
+    let word = words::next_word(line, 0);
     let start = word.start;
     let end = word.end;
     let name = &line[start..end];
@@ -135,7 +135,7 @@ pub fn read(line: &[u8], path: &mut [u32]) -> Request
 
 // The calls with one number or none.
 fn read_short(name: &[u8], line: &[u8], at: usize) -> Ask {
-    let word = script::next_word(line, at);
+    let word = words::next_word(line, at);
     if word.start == word.end {
         return read_bare(name);
     }
@@ -189,22 +189,22 @@ fn submit(line: &[u8], at: usize, path: &mut [u32]) -> Request
     requires { ⌜ 128 ≤ length (now path) ⌝ }
     ensures { λ r. ⌜ Within r ⌝ }
 {
-    let Short::ShortTo(id, at) = script::short_at(line, at) else {
+    let Short::ShortTo(id, at) = numbers::short_at(line, at) else {
         return malformed();
     };
     let OwnerWord::OwnerTo(owner, at) = owner_at(line, at) else {
         return malformed();
     };
-    let Long::LongTo(bytes, at) = script::long_at(line, at) else {
+    let Long::LongTo(bytes, at) = numbers::long_at(line, at) else {
         return malformed();
     };
-    let RealWord::RealTo(latency, at) = script::double_at(line, at) else {
+    let RealWord::RealTo(latency, at) = numbers::double_at(line, at) else {
         return malformed();
     };
     let CapWord::CapTo(cap, at) = cap_at(line, at) else {
         return malformed();
     };
-    let RealWord::RealTo(time, at) = script::double_at(line, at) else {
+    let RealWord::RealTo(time, at) = numbers::double_at(line, at) else {
         return malformed();
     };
     along(
@@ -226,10 +226,10 @@ fn estimate_new(line: &[u8], at: usize, path: &mut [u32]) -> Request
     requires { ⌜ 128 ≤ length (now path) ⌝ }
     ensures { λ r. ⌜ Within r ⌝ }
 {
-    let RealWord::RealTo(bytes, at) = script::double_at(line, at) else {
+    let RealWord::RealTo(bytes, at) = numbers::double_at(line, at) else {
         return malformed();
     };
-    let RealWord::RealTo(latency, at) = script::double_at(line, at) else {
+    let RealWord::RealTo(latency, at) = numbers::double_at(line, at) else {
         return malformed();
     };
     let CapWord::CapTo(cap, at) = cap_at(line, at) else {
@@ -250,7 +250,7 @@ fn estimate_new(line: &[u8], at: usize, path: &mut [u32]) -> Request
 fn advance(line: &[u8], at: usize) -> Request
     ensures { λ r. ⌜ Within r ⌝ }
 {
-    let RealWord::RealTo(time, at) = script::double_at(line, at) else {
+    let RealWord::RealTo(time, at) = numbers::double_at(line, at) else {
         return malformed();
     };
     lending(line, at, Listing::Advance(time))
@@ -268,7 +268,7 @@ fn take_completed(line: &[u8], at: usize) -> Request
 fn add_edge(line: &[u8], at: usize) -> Request
     ensures { λ r. ⌜ Within r ⌝ }
 {
-    let RealWord::RealTo(capacity, at) = script::double_at(line, at) else {
+    let RealWord::RealTo(capacity, at) = numbers::double_at(line, at) else {
         return malformed();
     };
     alone(line, at, Call::AddEdge(capacity))
@@ -277,10 +277,10 @@ fn add_edge(line: &[u8], at: usize) -> Request
 fn widen(line: &[u8], at: usize) -> Request
     ensures { λ r. ⌜ Within r ⌝ }
 {
-    let Short::ShortTo(edge, at) = script::short_at(line, at) else {
+    let Short::ShortTo(edge, at) = numbers::short_at(line, at) else {
         return malformed();
     };
-    let RealWord::RealTo(amount, at) = script::double_at(line, at) else {
+    let RealWord::RealTo(amount, at) = numbers::double_at(line, at) else {
         return malformed();
     };
     alone(line, at, Call::Widen(edge, amount))
@@ -289,10 +289,10 @@ fn widen(line: &[u8], at: usize) -> Request
 fn mean_in_flight(line: &[u8], at: usize) -> Request
     ensures { λ r. ⌜ Within r ⌝ }
 {
-    let Short::ShortTo(edge, at) = script::short_at(line, at) else {
+    let Short::ShortTo(edge, at) = numbers::short_at(line, at) else {
         return malformed();
     };
-    let RealWord::RealTo(until, at) = script::double_at(line, at) else {
+    let RealWord::RealTo(until, at) = numbers::double_at(line, at) else {
         return malformed();
     };
     alone(line, at, Call::MeanInFlight(edge, until))
@@ -314,7 +314,7 @@ fn malformed() -> Request
 fn alone(line: &[u8], at: usize, call: Call) -> Request
     ensures { λ r. ⌜ Within r ⌝ }
 {
-    let word = script::next_word(line, at);
+    let word = words::next_word(line, at);
     if word.start < word.end {
         return malformed();
     }
@@ -347,7 +347,7 @@ fn along(line: &[u8], at: usize, path: &mut [u32], call: Call) -> Request
     requires { ⌜ 128 ≤ length (now path) ⌝ }
     ensures { λ r. ⌜ Within r ⌝ }
 {
-    let Short::ShortTo(count, at) = script::short_at(line, at) else {
+    let Short::ShortTo(count, at) = numbers::short_at(line, at) else {
         return malformed();
     };
     if 128 < count {
@@ -356,7 +356,7 @@ fn along(line: &[u8], at: usize, path: &mut [u32], call: Call) -> Request
     let PathWords::PathTo(end) = path_at(line, at, path, count as usize) else {
         return malformed();
     };
-    let word = script::next_word(line, end);
+    let word = words::next_word(line, end);
     if word.start < word.end {
         return malformed();
     }
@@ -368,10 +368,10 @@ fn along(line: &[u8], at: usize, path: &mut [u32], call: Call) -> Request
 }
 
 fn last_number(line: &[u8], at: usize) -> Last {
-    let Short::ShortTo(n, at) = script::short_at(line, at) else {
+    let Short::ShortTo(n, at) = numbers::short_at(line, at) else {
         return Last::NoLast;
     };
-    let word = script::next_word(line, at);
+    let word = words::next_word(line, at);
     if word.start < word.end {
         return Last::NoLast;
     }
@@ -382,10 +382,10 @@ fn last_number(line: &[u8], at: usize) -> Last {
 
 // Only a worker has a number: the other kinds have 0 there.
 fn owner_at(line: &[u8], at: usize) -> OwnerWord {
-    let Short::ShortTo(kind, at) = script::short_at(line, at) else {
+    let Short::ShortTo(kind, at) = numbers::short_at(line, at) else {
         return OwnerWord::NoOwner;
     };
-    let Short::ShortTo(worker, at) = script::short_at(line, at) else {
+    let Short::ShortTo(worker, at) = numbers::short_at(line, at) else {
         return OwnerWord::NoOwner;
     };
     if kind == 0 {
@@ -403,13 +403,13 @@ fn owner_at(line: &[u8], at: usize) -> OwnerWord {
 }
 
 fn cap_at(line: &[u8], at: usize) -> CapWord {
-    let word = script::next_word(line, at);
+    let word = words::next_word(line, at);
     let start = word.start;
     let end = word.end;
     if check::same(&line[start..end], b"-") {
         return CapWord::CapTo(Cap::Uncapped, end);
     }
-    let RealWord::RealTo(limit, at) = script::double_at(line, at) else {
+    let RealWord::RealTo(limit, at) = numbers::double_at(line, at) else {
         return CapWord::NoCap;
     };
     CapWord::CapTo(Cap::AtMost(limit), at)
@@ -421,7 +421,7 @@ fn path_at(line: &[u8], from: usize, path: &mut [u32], count: usize) -> PathWord
     let mut at = from;
     let mut i = 0;
     while i < count {
-        let Short::ShortTo(edge, end) = script::short_at(line, at) else {
+        let Short::ShortTo(edge, end) = numbers::short_at(line, at) else {
             return PathWords::NoPath;
         };
         path[i] = edge;

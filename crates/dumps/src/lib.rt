@@ -8,6 +8,7 @@ use fields::spaced_double;
 use fields::spaced_owner;
 use fields::spaced_short;
 use fields::tally;
+use pages::put_text;
 use rules::Cap;
 use rules::Clock;
 use rules::Completion;
@@ -18,7 +19,6 @@ use rules::Route;
 use rules::Tally;
 use rules::Totals;
 use rules::Transfer;
-use script::put_text;
 
 pub fn dump(flows: Flows, page: &mut [u8; 65536], at: usize) -> usize
     requires { ⌜ Invariant flows ⌝ }

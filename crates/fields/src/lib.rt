@@ -5,11 +5,11 @@ ghost use Prim.Native.Nat.{_+_, _≤_};
 ghost use lib.ListN.{length};
 pub use page::room;
 pub use page::write_out;
+use pages::put_double;
+use pages::put_number;
+use pages::put_text;
 use rules::Owner;
 use rules::Tally;
-use script::put_double;
-use script::put_number;
-use script::put_text;
 
 pub fn spaced(page: &mut [u8; 65536], at: usize, n: u64) -> usize
     requires { ⌜ at ≤ 65500 ⌝ }

@@ -9,7 +9,7 @@ use asked::Call;
 use asked::Listing;
 use libc::STDIN_FILENO;
 use rules::Flows;
-use script::Line;
+use words::Line;
 
 // The simulator, and where the next answer goes on the page.
 struct Next {
@@ -161,7 +161,7 @@ fn ended(flows: Flows, line: Line, text: &[u8; 4096], page: &mut [u8; 65536], at
     }
     let at = fields::room(page, at);
     if line.long {
-        let at = script::put_text(page, at, b"malformed\n");
+        let at = pages::put_text(page, at, b"malformed\n");
         return Next { flows, at };
     }
     answered(flows, text, len, page, at)
@@ -179,7 +179,7 @@ fn answered(flows: Flows, text: &[u8], len: usize, page: &mut [u8; 65536], at: u
     let ask = request.ask;
     match ask {
         Ask::Malformed => {
-            let at = script::put_text(page, at, b"malformed\n");
+            let at = pages::put_text(page, at, b"malformed\n");
             Next { flows, at }
         }
         Ask::See(look) => {

@@ -10,15 +10,15 @@ use fields::spaced;
 use fields::spaced_double;
 use fields::spaced_short;
 use fields::tally;
+use pages::put_double;
+use pages::put_fixed;
+use pages::put_text;
+use pages::readable;
 use rules::Answer;
 use rules::Delay;
 use rules::Edge;
 use rules::EdgeRead;
 use rules::Flows;
-use script::put_double;
-use script::put_fixed;
-use script::put_text;
-use script::readable;
 
 // ---- calls
 

@@ -1,7 +1,7 @@
 -- `fields::spaced_short` meets its contract: ten digits hold what is below 2^32. Assumes nothing.
 use Prim.Native.Nat.{_-_, _≤_}
 use native.Mathlib.Omega.{arith}
-use Rattle.script.proofs.Fewest.{at-most}
+use Rattle.pages.proofs.Fewest.{at-most}
 use borrow.Author.Needs.{needs}
 use Rattle.fields.proofs.spaced_short.Statement.{statement}
 use Rattle.fields.proofs.spaced_short.Tie as tie
