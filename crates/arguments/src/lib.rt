@@ -7,11 +7,11 @@ ghost use lib.Dec.{leb};
 ghost use lib.ListN.{length};
 ghost use Rattle.rules.specs.Lists.{any};
 ghost use Rattle.rules.specs.Records.{route};
-ghost use Rattle.rules.specs.Refusals.{not-a-number, not-an-amount, not-a-time, not-a-cap, read-cap};
+ghost use Rattle.rules.specs.Refusals.{not-finite, not-an-amount, not-a-time, not-a-cap, read-cap};
 
 // A NaN or an infinity.
-pub fn not_a_number(x: f64) -> bool
-    ensures { λ r. ⌜ r ≡ not-a-number x ⌝ }
+pub fn not_finite(x: f64) -> bool
+    ensures { λ r. ⌜ r ≡ not-finite x ⌝ }
 {
     !doubles::is_finite(x)
 }

@@ -6,8 +6,8 @@ use lib.ListN.{getD, length, replicate}
 use lib.Ieee.{Float}
 use Rattle.rules.specs.declared.Flows.{Flows}
 use Rattle.rules.specs.Lists.{map-from}
-use Rattle.rules.specs.Records.{own-path, path-of, counts-in-loads, crossings-by, with-edges, with-in-flight}
-use Rattle.rules.specs.Clock.{edge-loads, gain-busy, drained, drain-slots}
+use Rattle.rules.specs.Records.{own-path, path-of, with-edges, with-in-flight}
+use Rattle.rules.specs.Clock.{crossings-by, counts-in-loads, edge-loads, gain-busy, drained, drain-slots}
 use Rattle.crossings.specs.Loads.{loads-by, loads}
 use Rattle.rules.proofs.Numbered.{map-from-same, map-from-numbers}
 use Rattle.crossings.proofs.Loads.{by-loads}

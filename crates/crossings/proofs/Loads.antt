@@ -10,8 +10,8 @@ use lib.Seq.{ext-getD}
 use Rattle.rules.specs.declared.Transfer.{Transfer}
 use Rattle.rules.specs.declared.Flows.{Flows}
 use Rattle.rules.specs.Lists.{sum, crossings, update, at-each-crossing, map-from}
-use Rattle.rules.specs.Records.{own-path, counts-in-loads, crossings-by}
-use Rattle.rules.specs.Clock.{edge-loads}
+use Rattle.rules.specs.Records.{own-path}
+use Rattle.rules.specs.Clock.{crossings-by, counts-in-loads, edge-loads}
 use Rattle.rules.specs.Invariant.{Invariant}
 use Rattle.rules.proofs.Each.{each-same}
 use Rattle.rules.proofs.Crossings.{crossings-length}

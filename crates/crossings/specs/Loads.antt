@@ -5,7 +5,9 @@ use mathlib.Core.List.{List}
 use lib.ListN.{replicate}
 use Rattle.rules.specs.declared.Transfer.{Transfer}
 use Rattle.rules.specs.Lists.{at-each-crossing, map-from}
-use Rattle.rules.specs.Records.{max-edges, own-path, takes-part, counts-in-loads, crossings-by}
+use Rattle.rules.specs.Records.{max-edges, own-path}
+use Rattle.rules.specs.Clock.{crossings-by, counts-in-loads}
+use Rattle.rules.specs.Filling.{takes-part}
 use Rattle.crossings.specs.declared.Counted.{Counted}
 use Rattle.crossings.specs.declared.Counted.the-variants.{InFlight, TakingPart}
 

@@ -11,11 +11,10 @@ use Rattle.rules.specs.declared.Edge.{Edge}
 use Rattle.rules.specs.declared.Flows.{Flows}
 use Rattle.rules.specs.Records.{with-edges, made-stale}
 use Rattle.rules.specs.Refusals.{_when_, refusing, answering, refused, no-such-edge}
-use Rattle.rules.specs.Calls.{drained-to-clock, edge-added, wider, edge-widened, widen}
+use Rattle.rules.specs.Calls.{drained-to-clock, edge-added, wider, edge-widened, no-widening, widen}
 use Rattle.rules.specs.Invariant.{Invariant}
 use Rattle.rules.proofs.Steps.{update-is}
 use Rattle.keeps.proofs.Draining.{drained-to-clock-reaches}
-use Rattle.edits.specs.Causes.{no-widening}
 
 pub edge-added-is : (capacity : Float) {f : Flows} → Invariant f
     → edge-added capacity f ≡ made-stale (with-edges (set (drained-to-clock f .edges) (f .«num_edges») (record { capacity = capacity; «bytes_moved» = nought; «busy_transfer_seconds» = nought })) (f .«num_edges» + 1) (drained-to-clock f))
@@ -34,5 +33,5 @@ edge-widened-is e amount f past = rw (update-is e (widened amount) (drained-to-c
 
 pub widen-is : (e : ℕ) (amount : Float) (f : Flows)
     → widen e amount f ≡ refusing (1 when no-widening amount e f ∷ 3 when no-such-edge f e ∷ []) (refused f) (answering Done (edge-widened e (read-zero amount) f))
-unfolding widen no-widening
+unfolding widen
 widen-is e amount f = refl

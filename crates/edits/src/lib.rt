@@ -6,9 +6,8 @@ use rules::Outcome;
 use rules::Transfer;
 use slots::Lookup;
 ghost use mathlib.Core.Path.{_≡_};
-ghost use Rattle.rules.specs.Calls.{add-edge, widen, cancel};
+ghost use Rattle.rules.specs.Calls.{add-edge, no-widening, widen, cancel};
 ghost use Rattle.rules.specs.Invariant.{Invariant};
-ghost use Rattle.edits.specs.Causes.{no-widening};
 
 // One more edge, which gets the next number.
 pub fn add_edge(flows: Flows, capacity: f64) -> Outcome
@@ -80,7 +79,7 @@ fn no_widening(flows: Flows, e: usize, amount: f64) -> bool
     requires { ⌜ Invariant flows ⌝ }
     ensures { λ r. ⌜ r ≡ no-widening amount e flows ⌝ }
 {
-    if arguments::not_a_number(amount) {
+    if arguments::not_finite(amount) {
         return true;
     }
     if flows.num_edges <= e {

@@ -12,7 +12,8 @@ use Rattle.rules.specs.declared.Cap.{Cap}
 use Rattle.rules.specs.declared.Edge.{Edge}
 use Rattle.rules.specs.declared.Flows.{Flows}
 use Rattle.rules.specs.Lists.{any}
-use Rattle.rules.specs.Records.{no-edge, takes-part}
+use Rattle.rules.specs.Records.{no-edge}
+use Rattle.rules.specs.Filling.{takes-part}
 use Rattle.rules.specs.Refusals.{no-such-edge}
 use Rattle.rules.specs.Questions.{new-share, path-share, capped, time-at-share, time-alone, estimate}
 use Rattle.rules.specs.Invariant.{Invariant}
@@ -20,7 +21,10 @@ use Rattle.paths.specs.Known.{Known}
 use Rattle.crossings.specs.Loads.{loads-by}
 use Rattle.crossings.proofs.Loads.{loads-at}
 use Rattle.keeps.proofs.Placing.{known-by}
-use Rattle.estimates.specs.Shares.{share-by}
+
+-- The capacity of edge e over its load and one.
+unfoldable pub share-by : List Edge → List ℕ → ℕ → Float
+share-by edges load e = getD edges e no-edge .capacity ⊘ whole (getD load e 0 + 1)
 
 -- The smallest of the shares along a path and a first one.
 abbrev pub least-by : List Edge → List ℕ → Float → List ℕ → Float

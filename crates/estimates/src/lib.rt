@@ -1,4 +1,4 @@
-// How long transfers would take: a new one at the share it would get now, and one in flight under its rate.
+// Estimates: the time a transfer would need that is not there yet, and the time left of one in flight.
 use crossings::Counted;
 use rules::Answer;
 use rules::Cap;
@@ -12,8 +12,8 @@ ghost use mathlib.Core.Path.{_≡_};
 ghost use mathlib.Core.Bool.{_||_};
 ghost use Prim.Native.Nat.{_+_, _≤_};
 ghost use Rattle.doubles.specs.Doubles.{_⊘_, whole};
-ghost use Rattle.rules.specs.Records.{takes-part};
-ghost use Rattle.rules.specs.Refusals.{not-a-number, not-an-amount, not-a-cap};
+ghost use Rattle.rules.specs.Filling.{takes-part};
+ghost use Rattle.rules.specs.Refusals.{not-finite, not-an-amount, not-a-cap};
 ghost use Rattle.rules.specs.Questions.{estimate-new-capped, estimate-new, estimate, path-share, capped, time-at-share, time-alone, estimate-remaining, remaining, or-nought};
 ghost use Rattle.rules.specs.Invariant.{Invariant};
 ghost use Rattle.paths.specs.Known.{Known};
@@ -57,11 +57,11 @@ pub fn estimate_new_capped(
 
 // Whether one of the numbers cannot be taken.
 fn not_numbers(bytes: f64, latency: f64, cap: Cap) -> bool
-    ensures { λ r. ⌜ r ≡ (not-an-amount bytes || not-a-number latency || not-a-cap cap) ⌝ }
+    ensures { λ r. ⌜ r ≡ (not-an-amount bytes || not-finite latency || not-a-cap cap) ⌝ }
 {
     if arguments::not_an_amount(bytes) {
         true
-    } else if arguments::not_a_number(latency) {
+    } else if arguments::not_finite(latency) {
         true
     } else {
         arguments::not_a_cap(cap)

@@ -15,8 +15,8 @@ use Rattle.rules.specs.declared.Edge.{Edge}
 use Rattle.rules.specs.declared.Transfer.{Transfer}
 use Rattle.rules.specs.declared.Seat.{Seat}
 use Rattle.rules.specs.Lists.{sum, crossings}
-use Rattle.rules.specs.Records.{no-edge, free, takes-part}
-use Rattle.rules.specs.Filling.{Filling, lone-rate, entered, seat, start, load}
+use Rattle.rules.specs.Records.{no-edge, free}
+use Rattle.rules.specs.Filling.{takes-part, Filling, lone-rate, entered, seat, start, load}
 use Rattle.rules.specs.Fair.{in-demand}
 use Rattle.fairness.specs.Ready.{no-seat, seat-at}
 use Rattle.fairness.proofs.Reading.{KeepsPath}

@@ -15,8 +15,8 @@ use Rattle.rules.specs.declared.Edge.{Edge}
 use Rattle.rules.specs.declared.Transfer.{Transfer}
 use Rattle.rules.specs.declared.Seat.{Seat}
 use Rattle.rules.specs.Lists.{count, sum}
-use Rattle.rules.specs.Records.{free, takes-part}
-use Rattle.rules.specs.Filling.{Filling, with-rate, seat, start, freeze, round, num-unfrozen, recompute-rates}
+use Rattle.rules.specs.Records.{free}
+use Rattle.rules.specs.Filling.{takes-part, Filling, with-rate, seat, start, freeze, frozen-by, round, num-unfrozen, recompute-rates}
 use Rattle.rules.specs.Fair.{in-demand, Fair}
 use Rattle.fairness.specs.Ready.{no-seat, seat-at, Ready}
 use Rattle.fairness.proofs.Reading.{KeepsPath}
@@ -61,7 +61,7 @@ module _ {path : Transfer → List ℕ} {edges : List Edge} {slots : List Transf
   -- a round changes nobody's demand
   demand-kept : (f : Filling) → Ready path f → 0 < num-unfrozen f → count (in-demand path) (map (λ (s : Seat). s .transfer) (f .seats)) ≡ count (in-demand path) (map (λ (s : Seat). s .transfer) (begin .seats))
       → count (in-demand path) (map (λ (s : Seat). s .transfer) (round path f .seats)) ≡ count (in-demand path) (map (λ (s : Seat). s .transfer) (begin .seats))
-  unfolding round
+  unfolding round frozen-by
   demand-kept f ready some-left same =
       count-kept (in-demand path) (λ (s : Seat). s .transfer) (freeze path (verdict-of path f)) (λ i s. freeze-keeps path (in-demand path) (in-demand-kept path edges (fillable .path-kept)) (verdict-of path f) i s) 0 (f .seats) ∙ same
 

@@ -20,8 +20,8 @@ use Rattle.rules.specs.declared.Transfer.{Transfer}
 use Rattle.rules.specs.declared.Seat.{Seat}
 use Rattle.rules.specs.declared.Flows.{Flows}
 use Rattle.rules.specs.Lists.{count}
-use Rattle.rules.specs.Records.{max-slots, free, own-path, path-of, takes-part}
-use Rattle.rules.specs.Filling.{with-rate, lone-rate, entered, seat, recompute-rates}
+use Rattle.rules.specs.Records.{max-slots, free, own-path, path-of}
+use Rattle.rules.specs.Filling.{takes-part, with-rate, lone-rate, entered, seat, recompute-rates}
 use Rattle.rules.specs.Fair.{in-demand}
 use Rattle.rules.specs.Invariant.{SoundCap, at-most, uncapped, SoundTransfer, Invariant}
 use Rattle.fairness.specs.Ready.{no-seat, seat-at}

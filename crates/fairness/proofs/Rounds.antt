@@ -12,7 +12,7 @@ use Rattle.rules.specs.declared.Transfer.{Transfer}
 use Rattle.rules.specs.declared.Seat.{Seat}
 use Rattle.rules.specs.declared.Verdict.{Verdict}
 use Rattle.rules.specs.declared.Verdict.the-variants.{ByCap, ByEdge, ByNobody}
-use Rattle.rules.specs.Filling.{Filling, with-rate, winning-edge, smallest-cap, verdict, rate-by, names, freezes, freeze, round, num-unfrozen, rounds-until}
+use Rattle.rules.specs.Filling.{Filling, with-rate, winning-edge, smallest-cap, verdict, rate-by, names, freezes, freeze, frozen-by, round, num-unfrozen, rounds-until}
 use Rattle.rules.proofs.Steps.{length-map-from}
 use Rattle.fairness.specs.Ready.{no-seat, seat-at, Ready}
 use Rattle.fairness.proofs.Reading.{KeepsPath}
@@ -81,20 +81,20 @@ module _ (path : Transfer → List ℕ) where
   -- ---- what a round does to the filling
 
   pub round-seats : (f : Filling) → length (round path f .seats) ≡ length (f .seats)
-  unfolding round
+  unfolding round frozen-by
   round-seats f = length-map-from 0 (freeze path (verdict-of f)) (f .seats)
 
   pub round-edges : (f : Filling) → length (round path f .residual) ≡ length (f .residual)
-  unfolding round
+  unfolding round frozen-by
   round-edges f = length-map-from 0 _ (f .residual)
 
   pub round-counts : (f : Filling) → round path f .rounds ≡ suc (f .rounds)
-  unfolding round
+  unfolding round frozen-by
   round-counts f = omega arith
 
   -- every seat is put through the verdict, and the one that is read past the last stays
   pub round-seat : (f : Filling) (i : ℕ) → seat-at (round path f) i ≡ freeze path (verdict-of f) i (seat-at f i)
-  unfolding round
+  unfolding round frozen-by
   round-seat f i =
       let z : 0 + i ≡ i = omega arith in
       getD-map-all 0 (freeze path (verdict-of f)) (f .seats) i no-seat (λ j. frozen-stays (verdict-of f) j no-seat refl) ∙ rw z refl
@@ -118,7 +118,7 @@ module _ (path : Transfer → List ℕ) where
   decided-hits f ByNobody d = absurd d
 
   pub round-freezes : (f : Filling) → Ready path f → 0 < num-unfrozen f → num-unfrozen (round path f) < num-unfrozen f
-  unfolding round num-unfrozen
+  unfolding round frozen-by num-unfrozen
   round-freezes f ready some-left =
       let v = verdict-of f in
       let hit = decided-hits f v (verdict-decided path f ready some-left) in

@@ -17,7 +17,7 @@ use Rattle.rules.specs.declared.Transfer.{Transfer}
 use Rattle.rules.specs.declared.Seat.{Seat}
 use Rattle.rules.specs.Lists.{times, crossings}
 use Rattle.rules.specs.Records.{no-edge}
-use Rattle.rules.specs.Filling.{Filling, crossings-frozen, spend, round, num-unfrozen}
+use Rattle.rules.specs.Filling.{Filling, crossings-frozen, spend, frozen-by, round, num-unfrozen}
 use Rattle.rules.proofs.Steps.{getD-map-from}
 use Rattle.fairness.specs.Ready.{seat-at, Ready}
 use Rattle.fairness.proofs.Reading.{KeepsPath}
@@ -110,19 +110,19 @@ module _ {path : Transfer → List ℕ} {edges : List Edge} {K : ℕ → ℕ} (s
   m e = crossings-frozen path (verdict-of path f) (f .seats) e
 
   pub load-round : (e : ℕ) → load-of path f e ≡ load-of path (round path f) e + m e
-  unfolding round
+  unfolding round frozen-by
   load-round e = load-falls path (verdict-of path f) e (f .seats)
 
   gone-round : (e : ℕ) → gone-of path edges (round path f) e ≡ gone-of path edges f e + m e
-  unfolding round
+  unfolding round frozen-by
   gone-round e = gone-grows path edges (sound .path-kept) (verdict-of path f) e (f .seats) (fills .demanding)
 
   pub spent-round : (e : ℕ) → spent-of path edges (round path f) e ≡ spent-of path edges f e + m e * exact x
-  unfolding round
+  unfolding round frozen-by
   spent-round e = spent-grows path edges (sound .path-kept) (verdict-of path f) e (f .seats) (fills .demanding)
 
   left-round : (e : ℕ) → e < length edges → left-of path (round path f) e ≡ times (m e) (spend x) (left-of path f e)
-  unfolding round
+  unfolding round frozen-by
   left-round e known =
       let z : 0 + e ≡ e = omega arith in
       let inside : e < length (f .residual) = omega (arith, fills .long) in

@@ -13,8 +13,8 @@ use Rattle.rules.specs.declared.Edge.{Edge}
 use Rattle.rules.specs.declared.Transfer.{Transfer}
 use Rattle.rules.specs.declared.Flows.{Flows}
 use Rattle.rules.specs.Tolerance.{B}
-use Rattle.rules.specs.Records.{free, own-path, path-of, takes-part}
-use Rattle.rules.specs.Filling.{Filling, with-rate, lone-rate, entered, seat, start, num-unfrozen, recompute-rates}
+use Rattle.rules.specs.Records.{free, own-path, path-of}
+use Rattle.rules.specs.Filling.{takes-part, Filling, with-rate, lone-rate, entered, seat, start, num-unfrozen, recompute-rates}
 use Rattle.rules.specs.Invariant.{SoundRoute, SoundTransfer, Invariant}
 use Rattle.fairness.specs.Ready.{seat-at, Ready}
 use Rattle.fairness.proofs.Reading.{KeepsPath}

@@ -1,4 +1,4 @@
--- The crossings of an edge through a round, seat by seat: what the load loses is what the round freezes, and so much the crossings given and their rates gain. Assumes nothing.
+-- The crossings of an edge through a frozen-by, round, seat by seat: what the load loses is what the round freezes, and so much the crossings given and their rates gain. Assumes nothing.
 use mathlib.Core.Path.{_≡_, refl, sym, ap, _∙_}
 use mathlib.Core.Bool.{Bool, true, false, not, _&&_, cond, true≢false}
 use mathlib.Core.List.{List, [], _∷_, map}
@@ -15,8 +15,8 @@ use Rattle.rules.specs.declared.Transfer.{Transfer}
 use Rattle.rules.specs.declared.Seat.{Seat}
 use Rattle.rules.specs.declared.Verdict.{Verdict}
 use Rattle.rules.specs.Lists.{sum, map-from, crossings}
-use Rattle.rules.specs.Records.{takes-part, crossings-by}
-use Rattle.rules.specs.Filling.{Filling, with-rate, load, rate-by, freezes, freeze, crossings-frozen, round}
+use Rattle.rules.specs.Clock.{crossings-by}
+use Rattle.rules.specs.Filling.{takes-part, Filling, with-rate, load, rate-by, freezes, freeze, crossings-frozen, frozen-by, round}
 use Rattle.rules.specs.Fair.{in-demand, k, carried}
 use Rattle.fairness.specs.Ready.{no-seat}
 use Rattle.fairness.proofs.Reading.{KeepsPath}
@@ -66,7 +66,7 @@ module _ (path : Transfer → List ℕ) (v : Verdict) (e : ℕ) where
 
 -- no load grows from round to round
 pub round-load : (path : Transfer → List ℕ) (f : Filling) (e : ℕ) → load path (round path f .seats) e ≤ load path (f .seats) e
-unfolding round
+unfolding round frozen-by
 round-load path f e = omega (arith, load-falls path (verdict-of path f) e (f .seats))
 
 -- ---- the seats of an edge

@@ -10,8 +10,8 @@ use Rattle.rules.specs.declared.Edge.{Edge}
 use Rattle.rules.specs.declared.Route.{Route}
 use Rattle.rules.specs.declared.Transfer.{Transfer}
 use Rattle.rules.specs.declared.Seat.{Seat}
-use Rattle.rules.specs.Records.{free, own-path, takes-part}
-use Rattle.rules.specs.Filling.{with-rate, lone-rate, entered, seat, start}
+use Rattle.rules.specs.Records.{free, own-path}
+use Rattle.rules.specs.Filling.{takes-part, with-rate, lone-rate, entered, seat, start}
 use Rattle.rules.specs.Invariant.{SoundRoute, SoundCap}
 use Rattle.fairness.specs.Ready.{seat-at, Ready}
 use Rattle.fairness.proofs.Start.{start-seat, start-ready, own-path-known}

@@ -10,7 +10,7 @@ use Rattle.rules.specs.declared.Transfer.{Transfer}
 use Rattle.rules.specs.declared.Seat.{Seat}
 use Rattle.rules.specs.declared.Verdict.{Verdict}
 use Rattle.rules.specs.Records.{own-path}
-use Rattle.rules.specs.Filling.{Filling, with-rate, smallest-cap, num-unfrozen, round, rounds-until}
+use Rattle.rules.specs.Filling.{Filling, with-rate, smallest-cap, num-unfrozen, frozen-by, round, rounds-until}
 use Rattle.rules.specs.Invariant.{SoundRoute}
 use Rattle.fairness.specs.Ready.{no-seat, seat-at, Ready}
 use Rattle.fairness.proofs.Start.{own-path-kept}
@@ -18,7 +18,7 @@ use Rattle.fairness.proofs.Rounds.{verdict-of, never-unfreezes, frozen-stays, r
 use Rattle.caps.specs.declared.CapOrder.{CapOrder}
 use Rattle.rounds.specs.declared.Scratch.{Scratch}
 use Rattle.caps.specs.Order.{capped, first-cap}
-use Rattle.rounds.specs.Standing.{filling, frozen-by, Standing, Frozen, Coming}
+use Rattle.rounds.specs.Standing.{filling, Standing, Frozen, Coming}
 use Rattle.caps.specs.Listed.{listed, Ordered, Passed}
 use Rattle.filling.specs.Filled.{Begun}
 use Rattle.caps.proofs.Ranked.{Since, next-is-smallest}
@@ -58,8 +58,8 @@ module _ (start : Scratch) (o : CapOrder) (begun : Begun start) (ordered : Order
 
       module _ (v : Verdict) (cursor : ℕ) (is-verdict : v ≡ verdict-of own-path (filling f)) (passed : Passed (f .seats) (listed o) cursor) (r : Scratch) (frozen : Frozen f v cursor r) where
         is-round : filling r ≡ round own-path (filling f)
-        unfolding frozen-by round
-        is-round = frozen .same ∙ ap (λ (w : Verdict). frozen-by w (filling f)) is-verdict
+        unfolding round
+        is-round = frozen .same ∙ ap (λ (w : Verdict). frozen-by own-path w (filling f)) is-verdict
 
         -- a seat after the round
         seat-is : (i : ℕ) → getD (r .seats) i no-seat ≡ seat-at (round own-path (filling f)) i

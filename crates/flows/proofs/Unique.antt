@@ -4,6 +4,14 @@ use Prim.Native.Nat.{ℕ}
 use lib.Ieee.{Float}
 use denote.Ref.{now}
 use Rattle.rules.specs.Unique.{Decided, DecidedWith}
+use Rattle.rules.proofs.Flows.new.Reads as flows-new
+use Rattle.rules.proofs.Flows.new.Kinds as flows-new-kinds
+use Rattle.rules.proofs.Transfer.free.Reads as transfer-free
+use Rattle.rules.proofs.Transfer.free.Kinds as transfer-free-kinds
+use Rattle.rules.proofs.Tolerance.new.Reads as tolerance-new
+use Rattle.rules.proofs.Tolerance.new.Kinds as tolerance-new-kinds
+use Rattle.rules.proofs.Tolerance.eps.Reads as tolerance-eps
+use Rattle.rules.proofs.Tolerance.eps.Kinds as tolerance-eps-kinds
 use Rattle.edits.proofs.add_edge.Reads as add-edge
 use Rattle.edits.proofs.add_edge.Kinds as add-edge-kinds
 use Rattle.edits.proofs.widen.Reads as widen
@@ -60,6 +68,22 @@ use Rattle.totals.proofs.bytes_submitted.Reads as bytes-submitted
 use Rattle.totals.proofs.bytes_submitted.Kinds as bytes-submitted-kinds
 use Rattle.totals.specs.declared.Counts.{Counts}
 use Rattle.totals.specs.declared.Bytes.{Bytes}
+
+-- ---- what a type makes of itself
+
+pub flows-new-decided : Decided 0 flows-new-kinds.ps flows-new-kinds.r flows-new.Post
+flows-new-decided κs a z z' e e' p q = p .0 ∙ sym (q .0)
+
+pub transfer-free-decided : Decided 0 transfer-free-kinds.ps transfer-free-kinds.r transfer-free.Post
+transfer-free-decided κs a z z' e e' p q = p ∙ sym q
+
+pub tolerance-new-decided : Decided 0 tolerance-new-kinds.ps tolerance-new-kinds.r tolerance-new.Post
+tolerance-new-decided κs a z z' e e' p q = p ∙ sym q
+
+pub tolerance-eps-decided : Decided 0 tolerance-eps-kinds.ps tolerance-eps-kinds.r tolerance-eps.Post
+tolerance-eps-decided κs a z z' e e' p q = p ∙ sym q
+
+-- ---- calls and questions
 
 pub add-edge-decided : Decided 0 add-edge-kinds.ps add-edge-kinds.r add-edge.Post
 add-edge-decided κs a z z' e e' p q = p .0 ∙ sym (q .0)

@@ -3,14 +3,17 @@
 // ---- types
 pub use rules::Answer;
 pub use rules::Cap;
+pub use rules::Clock;
 pub use rules::Completion;
 pub use rules::Delay;
 pub use rules::Edge;
+pub use rules::EdgeLoad;
 pub use rules::EdgeRead;
 pub use rules::Flows;
 pub use rules::NextDone;
 pub use rules::Outcome;
 pub use rules::Owner;
+pub use rules::Route;
 pub use rules::Tally;
 pub use rules::Tolerance;
 pub use rules::Totals;

@@ -14,7 +14,7 @@ use Rattle.rules.specs.declared.Outcome.{Outcome}
 use Rattle.rules.specs.declared.Flows.{Flows}
 use Rattle.rules.specs.Records.{owner-kind, contains, with-edges, with-waiting, with-clock, made-stale}
 use Rattle.rules.specs.Clock.{ensure-rates, pass-time}
-use Rattle.rules.specs.Refusals.{answering, refused, Lent, lent, refused-lent, not-a-number, not-a-cap, not-a-time, read-cap}
+use Rattle.rules.specs.Refusals.{answering, refused, Lent, lent, refused-lent, not-finite, not-a-cap, not-a-time, read-cap}
 use Rattle.rules.specs.Queue.{ids-for, collected, taking, take-completed, owners-with-completions}
 use Rattle.rules.specs.Calls.{drained-to-clock, edge-added, edge-widened, add-edge, widen, submit-capped, quiet, done-list, listing, advance, cancelled, cancel}
 use Rattle.rules.specs.Questions.{next-completion-delay, estimate-remaining, rate}
@@ -71,7 +71,7 @@ module _ {f : Flows} {l : Ledger} (inv : Invariant f) (agrees : Agrees f l) wher
   submit-agrees id owner path bytes latency cap until typed =
       refused-or (λ (o : Outcome). Agrees (o .flows) (cond (is-yes (o .answer)) (note-submitted id (owner-kind owner) l) l)) _ (refused f) _ (λ n. agrees) (λ clear.
       -- the time is of the first two causes, a full table the seventh
-      let in-time = neither (not-a-number latency || not-a-cap cap) (not-a-time until) (clear .0) .1 in
+      let in-time = neither (not-finite latency || not-a-cap cap) (not-a-time until) (clear .0) .1 in
       let drained = drain-to-reaches inv (time-clock until typed in-time) (time-no-earlier until typed in-time (inv .clock .plain) (clear .1 .0)) in
       submitted-agrees id owner path bytes (read-zero latency) (read-cap cap) (read-zero until) inv agrees (unheard-reached drained) (clear .1 .1 .1 .1 .1 .1 .0))
 

@@ -24,7 +24,7 @@ use Rattle.doubles.proofs.Signs.{plain-nonneg, finite-plain, sum-nonneg}
 use Rattle.doubles.proofs.Zeros.{nought-plain, nought-exact, read-zero-plain, read-zero-own, floored-plain}
 use Rattle.rules.specs.declared.Cap.{Cap}
 use Rattle.rules.specs.declared.Cap.the-variants.{AtMost, Uncapped}
-use Rattle.rules.specs.Refusals.{not-a-number, not-an-amount, not-a-time, not-a-cap, read-cap}
+use Rattle.rules.specs.Refusals.{not-finite, not-an-amount, not-a-time, not-a-cap, read-cap}
 use Rattle.rules.specs.Histories.{typed-cap}
 use Rattle.rules.specs.Invariant.{ClockTime, SoundCap, at-most, uncapped}
 use Rattle.doubles.proofs.Monotone.{sum-rounded}
@@ -81,8 +81,8 @@ module _ (x : Float) (t : T (fits binary64 x)) (i : T (is-finite x)) (h : T (not
 -- ---- arguments
 
 module _ (x : Float) (t : T (fits binary64 x)) where
-  pub number-floored : not-a-number x ≡ false → Plain (larger (read-zero x) nought)
-  unfolding not-a-number
+  pub number-floored : not-finite x ≡ false → Plain (larger (read-zero x) nought)
+  unfolding not-finite
   number-floored e = floored-plain binary64 x t (is-not (is-finite x) e)
 
   pub amount-plain : not-an-amount x ≡ false → Plain (read-zero x)
@@ -134,8 +134,8 @@ module _ {c : Float} (p : Plain c) where
   plain-sum (fin false n d) t i j h = finite-plain (sum-nonneg (plain-nonneg p) (plain-nonneg (record { is-plain = tt; is-held = t }))) j
   plain-sum (fin true n d) t i j h = plain-difference {y = fin false n d} (record { is-plain = tt; is-held = neg-fits binary64 (fin true n d) t }) h
 
-  pub widened-plain : (a : Float) → T (fits binary64 a) → not-a-number a ≡ false → not-an-amount (c ⊕ a) ≡ false → Plain (c ⊕ read-zero a)
-  unfolding not-a-number not-an-amount read-zero
+  pub widened-plain : (a : Float) → T (fits binary64 a) → not-finite a ≡ false → not-an-amount (c ⊕ a) ≡ false → Plain (c ⊕ read-zero a)
+  unfolding not-finite not-an-amount read-zero
   widened-plain a t i e = go (eq a nought)
     where
       go : (b : Bool) → Plain (c ⊕ cond b nought a)

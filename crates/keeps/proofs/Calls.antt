@@ -20,7 +20,7 @@ use Rattle.rules.specs.declared.Answer.the-variants.{Done, Unknown}
 use Rattle.rules.specs.declared.Flows.{Flows}
 use Rattle.rules.specs.Records.{max-edges, max-path, max-slots, no-edge, contains, num-in-flight, tally-of}
 use Rattle.rules.specs.Clock.{ensure-rates, drain-to}
-use Rattle.rules.specs.Refusals.{answering, refused, Lent, refused-lent, not-a-number, not-an-amount, not-a-time, not-a-cap, no-such-edge, too-long, is-full, read-cap}
+use Rattle.rules.specs.Refusals.{answering, refused, Lent, refused-lent, not-finite, not-an-amount, not-a-time, not-a-cap, no-such-edge, too-long, is-full, read-cap}
 use Rattle.rules.specs.Calls
 use Rattle.rules.specs.Queue.{taking, take-completed, ids-for, owners-with-completions}
 use Rattle.rules.specs.Questions.{next-completion-delay, estimate-remaining, rate}
@@ -74,9 +74,9 @@ there-tested false b e h = h
 there-tested true b e h = absurd (true≢false e)
 
 pub widen-keeps : (e : ℕ) (amount : Float) (f : Flows) → T (fits binary64 amount) → Invariant f → Invariant (Calls.widen e amount f .flows)
-unfolding Calls.widen Calls.wider no-such-edge
+unfolding Calls.widen Calls.no-widening Calls.wider no-such-edge
 widen-keeps e amount f typed inv = refused-or (λ o. Invariant (o .flows)) _ (refused f) _ (λ n. inv) (λ none.
-    let tests = neither (not-a-number amount) (not (leb (f .«num_edges») e) && not-an-amount (getD (f .edges) e no-edge .capacity ⊕ amount)) (none .0) in
+    let tests = neither (not-finite amount) (not (leb (f .«num_edges») e) && not-an-amount (getD (f .edges) e no-edge .capacity ⊕ amount)) (none .0) in
     edge-widened-keeps e (read-zero amount) f (leb-false (f .«num_edges») e (none .1 .0))
     (widened-plain (inv .edges e .capacity) amount typed (tests .0) (there-tested (leb (f .«num_edges») e) (not-an-amount (getD (f .edges) e no-edge .capacity ⊕ amount)) (none .1 .0) (tests .1))) inv)
 
@@ -86,8 +86,8 @@ pub submit-capped-keeps : (id : ℕ) (owner : Owner) (path : List ℕ) (bytes : 
     → T (fits binary64 latency) → T (typed-cap cap) → T (fits binary64 until) → Invariant f → Invariant (Calls.submit-capped id owner path bytes latency cap until f .flows)
 unfolding Calls.submit-capped no-such-edge too-long is-full
 submit-capped-keeps id owner path bytes latency cap until f typed typed-c typed-t inv = refused-or (λ o. Invariant (o .flows)) _ (refused f) _ (λ n. inv) (λ none.
-    let tests = neither (not-a-number latency || not-a-cap cap) (not-a-time until) (none .0) in
-    let amounts = neither (not-a-number latency) (not-a-cap cap) (tests .0) in
+    let tests = neither (not-finite latency || not-a-cap cap) (not-a-time until) (none .0) in
+    let amounts = neither (not-finite latency) (not-a-cap cap) (tests .0) in
     submitted-keeps id owner path bytes (read-zero latency) (read-cap cap) (read-zero until) f
     (record {
       known = none .1 .1 .0;

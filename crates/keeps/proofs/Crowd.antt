@@ -14,7 +14,8 @@ use Rattle.rules.specs.declared.Totals.{Totals}
 use Rattle.rules.specs.declared.EdgeLoad.{EdgeLoad}
 use Rattle.rules.specs.declared.Clock.{Clock}
 use Rattle.rules.specs.Lists.{count, sum, crossings}
-use Rattle.rules.specs.Records.{free, own-path, owner-kind, counts-in-loads, crossings-by, tally-of}
+use Rattle.rules.specs.Records.{free, own-path, owner-kind, tally-of}
+use Rattle.rules.specs.Clock.{crossings-by, counts-in-loads}
 use Rattle.rules.specs.Invariant.{of-kind, Balanced}
 use Rattle.rules.proofs.Counting.{count-map}
 use Rattle.rules.proofs.Numbered.{map-from-same, map-from-numbers}

@@ -16,8 +16,8 @@ use Rattle.rules.specs.declared.Edge.{Edge}
 use Rattle.rules.specs.declared.Transfer.{Transfer}
 use Rattle.rules.specs.declared.Flows.{Flows}
 use Rattle.rules.specs.Lists.{Each, count, sum, crossings, update, at-each-crossing, map-from}
-use Rattle.rules.specs.Records.{no-edge, free, own-path, counts-in-loads, crossings-by}
-use Rattle.rules.specs.Clock.{flowing-time, moves, bytes-flowing, gain-moved, deliver, gain-busy}
+use Rattle.rules.specs.Records.{no-edge, free, own-path}
+use Rattle.rules.specs.Clock.{crossings-by, counts-in-loads, flowing-time, moves, bytes-flowing, gain-moved, deliver, gain-busy}
 use Rattle.rules.specs.Invariant.{ClockTime, SoundEdge, SoundSlot}
 use Rattle.paths.specs.Known.{Known}
 use Rattle.paths.proofs.PerEdge.{length-crossing}

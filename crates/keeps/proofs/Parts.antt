@@ -15,8 +15,8 @@ use Rattle.rules.specs.declared.Clock.{Clock}
 use Rattle.rules.specs.declared.Flows.{Flows}
 use Rattle.rules.specs.Lists.{count, sum, Each, map-from}
 use Rattle.rules.specs.Tolerance.{default-tolerance}
-use Rattle.rules.specs.Records.{max-edges, max-slots, no-edge, free, no-completion, own-path, counts-in-loads, crossings-by, num-in-flight, before, tally-of}
-use Rattle.rules.specs.Clock.{edge-loads}
+use Rattle.rules.specs.Records.{max-edges, max-slots, no-edge, free, no-completion, own-path, num-in-flight, before, tally-of}
+use Rattle.rules.specs.Clock.{crossings-by, counts-in-loads, edge-loads}
 use Rattle.rules.specs.Invariant.{ClockTime, SoundNext, SoundEdge, SoundSlot, Balanced, Invariant}
 
 -- The time, and what the last filling left beside it.

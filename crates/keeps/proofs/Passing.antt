@@ -12,8 +12,8 @@ use Rattle.rules.specs.declared.Edge.{Edge}
 use Rattle.rules.specs.declared.Transfer.{Transfer}
 use Rattle.rules.specs.declared.Flows.{Flows}
 use Rattle.rules.specs.Lists.{sum, Each, map-from}
-use Rattle.rules.specs.Records.{free, own-path, counts-in-loads, crossings-by, with-edges, with-clock, at-time}
-use Rattle.rules.specs.Clock.{gain-busy, pass-time}
+use Rattle.rules.specs.Records.{free, own-path, with-edges, with-clock, at-time}
+use Rattle.rules.specs.Clock.{crossings-by, counts-in-loads, gain-busy, pass-time}
 use Rattle.rules.specs.Invariant.{ClockTime, SoundSlot, Invariant}
 use Rattle.rules.proofs.Steps.{length-map-from}
 use Rattle.rules.proofs.Conds.{by-test}

@@ -11,8 +11,8 @@ use lib.Ieee.{Float}
 use Rattle.rules.specs.declared.Transfer.{Transfer}
 use Rattle.rules.specs.declared.Flows.{Flows}
 use Rattle.rules.specs.Lists.{Each}
-use Rattle.rules.specs.Records.{free, path-of, takes-part, with-in-flight, with-edge-load, with-clock}
-use Rattle.rules.specs.Filling.{with-rate, recompute-rates}
+use Rattle.rules.specs.Records.{free, path-of, with-in-flight, with-edge-load, with-clock}
+use Rattle.rules.specs.Filling.{takes-part, with-rate, recompute-rates}
 use Rattle.rules.specs.Clock.{edge-loads, with-rates, ensure-rates}
 use Rattle.rules.specs.Invariant.{SoundTransfer, SoundSlot, Invariant}
 use Rattle.fairness.proofs.Rates.{rated, SoundRate, rated-length, rated-keeps, rated-stays, rates-plain, few-rounds, rounds-in-slots}

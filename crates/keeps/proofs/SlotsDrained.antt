@@ -12,8 +12,8 @@ use Rattle.rules.specs.declared.Route.{Route}
 use Rattle.rules.specs.declared.Transfer.{Transfer}
 use Rattle.rules.specs.declared.Flows.{Flows}
 use Rattle.rules.specs.Lists.{Each, sum, crossings}
-use Rattle.rules.specs.Records.{free, own-path, counts-in-loads, crossings-by}
-use Rattle.rules.specs.Clock.{drained}
+use Rattle.rules.specs.Records.{free, own-path}
+use Rattle.rules.specs.Clock.{crossings-by, counts-in-loads, drained}
 use Rattle.rules.specs.Invariant.{SoundSlot}
 use Rattle.keeps.proofs.OneDrained.{Same, drained-same, drained-free, drained-time, slot-kept}
 

@@ -10,7 +10,7 @@ use rules::Transfer;
 use slots::Lookup;
 ghost use mathlib.Core.Path.{_≡_};
 ghost use Rattle.rules.specs.Refusals.{no-such-edge};
-ghost use Rattle.rules.specs.Questions.{next-completion-delay, until as delay-until, rate, rate-in, mean-in-flight, mean-over, edge as the-edge};
+ghost use Rattle.rules.specs.Questions.{next-completion-delay, delay-until, rate, rate-in, mean-in-flight, mean-over, edge as the-edge};
 ghost use Rattle.rules.specs.Invariant.{Invariant};
 
 // ---- answered under rates brought up to date
@@ -88,9 +88,9 @@ pub fn mean_in_flight(flows: Flows, edge: u32, until: f64) -> Answer
     requires { ⌜ Invariant flows ⌝ }
     ensures { λ r. ⌜ r ≡ mean-in-flight edge until flows ⌝ }
 {
-    let not_a_number = arguments::not_a_number(until);
+    let not_finite = arguments::not_finite(until);
     let missing = no_such_edge(flows, edge);
-    if not_a_number {
+    if not_finite {
         return Answer::Refused(1);
     }
     if missing {

@@ -9,7 +9,7 @@ use Rattle.rules.specs.declared.Seat.{Seat}
 use Rattle.rules.specs.declared.Verdict.{Verdict}
 use Rattle.rules.specs.Lists.{map-from, times}
 use Rattle.rules.specs.Records.{max-edges, max-slots, own-path}
-use Rattle.rules.specs.Filling.{Filling, load, smallest-cap, num-unfrozen, freeze, crossings-frozen, spend, rate-by}
+use Rattle.rules.specs.Filling.{Filling, load, smallest-cap, num-unfrozen, frozen-by}
 use Rattle.rules.specs.Invariant.{SoundRoute}
 use Rattle.fairness.specs.Ready.{no-seat}
 use Rattle.paths.specs.Known.{Counted}
@@ -21,15 +21,6 @@ use Rattle.rounds.specs.declared.Scratch.{Scratch}
 -- The filling that a scratch stands for.
 abbrev pub filling : Scratch → Filling
 filling f = record { seats = f .seats; residual = f .residual; rounds = f .rounds }
-
--- A filling once a verdict is carried out: what a round does with its own verdict.
-unfoldable pub frozen-by : Verdict → Filling → Filling
-frozen-by v f =
-    record {
-      seats = map-from 0 (freeze own-path v) (f .seats);
-      residual = map-from 0 (λ e r. times (crossings-frozen own-path v (f .seats) e) (spend (rate-by v)) r) (f .residual);
-      rounds = suc (f .rounds);
-    }
 
 -- A table with each edge's load.
 pub record Loads (seats : List Seat) (table : List ℕ) : Type 0 where
@@ -53,7 +44,7 @@ pub record Standing (f : Scratch) : Type 0 where
 
 -- A scratch after a verdict: the filling that the definition has then, with the loads and the number unfrozen that go with it.
 pub record Frozen (f : Scratch) (v : Verdict) (cursor : ℕ) (r : Scratch) : Type 0 where
-  pub same : filling r ≡ frozen-by v (filling f)
+  pub same : filling r ≡ frozen-by own-path v (filling f)
   pub loads : Loads (r .seats) (r .load)
   pub counted : r .unfrozen ≡ num-unfrozen (filling r)
   pub passed : r .«cap_cursor» ≡ cursor

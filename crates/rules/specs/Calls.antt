@@ -22,16 +22,16 @@ use Rattle.rules.specs.Lists.{those, any, update, write-front}
 use Rattle.rules.specs.Records.{max-edges, no-edge, free, route, has-id, of-id, contains, num-in-flight, tally-of, with-edges, with-in-flight, with-totals, made-stale, on-tally}
 use Rattle.rules.specs.Done.{done-eps, is-done}
 use Rattle.rules.specs.Clock.{ensure-rates, pass-time, drain-to}
-use Rattle.rules.specs.Refusals.{_when_, refusing, answering, refused, Lent, lent, refused-lent, not-a-number, not-an-amount, not-a-time, not-a-cap, no-such-edge, too-long, is-full, read-cap}
+use Rattle.rules.specs.Refusals.{_when_, refusing, answering, refused, Lent, lent, refused-lent, not-finite, not-an-amount, not-a-time, not-a-cap, no-such-edge, too-long, is-full, read-cap}
 use Rattle.rules.specs.Queue.{queued, triples}
 
 -- ---- edges
 
--- The simulator drained to its clock, as every change of edges and every known cancel begins. (01, Clock)
+-- The simulator drained to its clock, as every change of edges and every known cancel begins. (01, Departures)
 unfoldable pub drained-to-clock : Flows → Flows
 drained-to-clock f = drain-to (f .clock .now) f
 
--- The simulator drained to its clock, with one more edge. (01, Clock)
+-- The simulator drained to its clock, with one more edge. (01, Clock and Departures)
 unfoldable pub edge-added : Float → Flows → Flows
 edge-added capacity f =
     let d = drained-to-clock f in
@@ -46,21 +46,25 @@ add-edge capacity f =
     ∷ []) (refused f)
     (answering (Added (f .«num_edges»)) (edge-added (read-zero capacity) f))
 
--- The capacity of an edge with some amount more. (01, Clock)
+-- The capacity of an edge with some amount more. (01, Numbers)
 unfoldable pub wider : Float → Edge → Float
 wider amount e = e .capacity ⊕ amount
 
--- The simulator drained to its clock, with an edge of another capacity. (01, Clock)
+-- The simulator drained to its clock, with an edge of another capacity. (01, Clock and Departures)
 unfoldable pub edge-widened : ℕ → Float → Flows → Flows
 edge-widened e amount f =
     let d = drained-to-clock f in
     made-stale (with-edges (update e (λ edge. record { capacity = wider amount edge; «bytes_moved» = edge .«bytes_moved»; «busy_transfer_seconds» = edge .«busy_transfer_seconds» }) (d .edges)) (d .«num_edges») d)
 
--- An amount added to an edge's capacity. An absent edge has no capacity that could go wrong, so only the amount itself comes before 3. (01, Numbers and Clock)
+-- 1: the amount is not finite, or the edge is there and would be left with no capacity. An absent edge has none that could go wrong. (01, Numbers)
+unfoldable pub no-widening : Float → ℕ → Flows → Bool
+no-widening amount e f = not-finite amount || not (no-such-edge f e) && not-an-amount (wider amount (getD (f .edges) e no-edge))
+
+-- An amount added to an edge's capacity. For an absent edge only the amount itself comes before 3. (01, Numbers and Clock)
 unfoldable pub widen : ℕ → Float → Flows → Outcome
 widen e amount f =
     refusing
-    (1 when (not-a-number amount || not (no-such-edge f e) && not-an-amount (wider amount (getD (f .edges) e no-edge)))
+    (1 when no-widening amount e f
     ∷ 3 when no-such-edge f e
     ∷ []) (refused f)
     (answering Done (edge-widened e (read-zero amount) f))
@@ -104,7 +108,7 @@ submitted id owner path bytes latency cap T f =
 unfoldable pub submit-capped : ℕ → Owner → List ℕ → ℕ → Float → Cap → Float → Flows → Outcome
 submit-capped id owner path bytes latency cap T f =
     refusing
-    (1 when (not-a-number latency || not-a-cap cap || not-a-time T)
+    (1 when (not-finite latency || not-a-cap cap || not-a-time T)
     ∷ 2 when (T ≺ f .clock .now)
     ∷ 3 when any (no-such-edge f) path
     ∷ 4 when too-long path
@@ -121,12 +125,12 @@ submit id owner path bytes latency T f = submit-capped id owner path bytes laten
 
 -- ---- advance
 
--- Whether next-done is none or later than T. (01, Clock)
+-- Whether T comes before next-done, or nobody is ever done. (01, Clock)
 unfoldable pub later-than : Float → NextDone → Bool
 later-than T Nobody = true
 later-than T (At next) = T ≺ next
 
--- Nobody can be done by T, so transfers stay as at the last drain. (01, Clock)
+-- Whether an advance to T is quiet: rates are up to date and next-done does not come by T. Who would count as done a little before it is not asked. (01, Clock)
 unfoldable pub quiet : Float → Flows → Bool
 quiet T f = not (f .clock .«rates_dirty») && later-than T (f .clock .«next_done_at»)
 
@@ -187,7 +191,7 @@ count-cancelled y = record { submitted = y .submitted; completed = y .completed;
 unfoldable pub owner-of : ℕ → List Transfer → Owner
 owner-of id slots = of-id id (free .owner) (λ t. t .owner) slots
 
--- Drained to the clock, then counted and removed. (01, Clock)
+-- Drained to the clock, then counted and removed. (01, Clock and Departures)
 unfoldable pub cancelled : ℕ → Flows → Flows
 cancelled id f =
     let d = on-tally (owner-of id (f .«in_flight»)) count-cancelled (drained-to-clock f) in

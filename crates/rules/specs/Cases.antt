@@ -156,7 +156,7 @@ cases =
     ∷ sent 2 (0 ∷ []) 100 0 Uncapped
     ∷ estimate-new (0 ∷ []) (whole 8) (whole 1) Uncapped gives said (Value (whole 3))
     ∷ [])
-    -- 12: a latency still being paid holds its share
+    -- 12: who still pays its latency has its share all the same
     ∷ (new-edge 0 10
     ∷ sent 1 (0 ∷ []) 100 0 Uncapped
     ∷ sent 2 (0 ∷ []) 100 5 Uncapped

@@ -12,8 +12,8 @@ use Rattle.rules.specs.declared.Edge.{Edge}
 use Rattle.rules.specs.declared.EdgeLoad.{EdgeLoad}
 use Rattle.rules.specs.declared.Transfer.{Transfer}
 use Rattle.rules.specs.declared.Flows.{Flows}
-use Rattle.rules.specs.Lists.{at-each-crossing, map-from}
-use Rattle.rules.specs.Records.{path-of, counts-in-loads, crossings-by, with-edges, with-in-flight, with-edge-load, with-clock, at-time}
+use Rattle.rules.specs.Lists.{at-each-crossing, map-from, sum, crossings}
+use Rattle.rules.specs.Records.{path-of, with-edges, with-in-flight, with-edge-load, with-clock, at-time}
 use Rattle.rules.specs.Done.{done-eps, time-to-done, sooner}
 use Rattle.rules.specs.Filling.{Filling, recompute-rates}
 
@@ -27,6 +27,14 @@ soonest eps slots = foldl (λ d t. cond (t .taken) (sooner d (time-to-done eps t
 unfoldable pub ahead : Float → Delay → NextDone
 ahead now Never = Nobody
 ahead now (After d) = At (now ⊕ d)
+
+-- Whether a transfer's crossings count in the busy time of edges: all in flight do. (01, Clock)
+unfoldable pub counts-in-loads : Transfer → Bool
+counts-in-loads t = t .taken
+
+-- The crossings of edge e by the transfers that pass a test. (01, Clock and Questions)
+unfoldable pub crossings-by : (Transfer → Bool) → (Transfer → List ℕ) → List Transfer → ℕ → ℕ
+crossings-by p path slots e = sum (map (λ t. cond (p t) (crossings e (path t)) 0) slots)
 
 -- The crossings of each edge by all in flight, and how many edges there are. (01, Clock)
 unfoldable pub edge-loads : Flows → EdgeLoad

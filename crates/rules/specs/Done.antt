@@ -24,7 +24,7 @@ time-to-done eps t =
     (cond (nought ≺ t .rate) (After (t .«latency_remaining» ⊕ t .«bytes_remaining» ⊘ t .rate))
     Never))
 
--- The earlier of two delays; the first at equality. (01, Tolerance)
+-- The earlier of two delays; the first at equality. (01, Clock)
 unfoldable pub sooner : Delay → Delay → Delay
 sooner Never d = d
 sooner (After a) Never = After a

@@ -14,8 +14,9 @@ use Rattle.rules.specs.declared.Edge.{Edge}
 use Rattle.rules.specs.declared.Transfer.{Transfer}
 use Rattle.rules.specs.declared.Flows.{Flows}
 use Rattle.rules.specs.Lists.{count, sum, crossings}
-use Rattle.rules.specs.Records.{no-edge, free, path-of, takes-part, crossings-by}
-use Rattle.rules.specs.Filling.{recompute-rates}
+use Rattle.rules.specs.Records.{no-edge, free, path-of}
+use Rattle.rules.specs.Clock.{crossings-by}
+use Rattle.rules.specs.Filling.{takes-part, recompute-rates}
 
 -- The exact capacity of edge e.
 unfoldable pub C : List Edge → ℕ → ℕ

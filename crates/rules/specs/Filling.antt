@@ -1,4 +1,4 @@
--- Max-min fair rates by progressive filling. (01, Filling) Definitions only.
+-- Rates that are max-min fair, worked out round by round. (01, Filling) Definitions only.
 -- A seat is a slot during the filling: unfrozen while a round has yet to give its transfer a rate.
 use Prim.Native.Nat.{ℕ, zero, suc}
 use mathlib.Core.Bool.{Bool, true, false, _&&_, cond}
@@ -15,8 +15,8 @@ use Rattle.rules.specs.declared.Best.{Best}
 use Rattle.rules.specs.declared.Best.the-variants.{At, Nobody}
 use Rattle.rules.specs.declared.Verdict.{Verdict}
 use Rattle.rules.specs.declared.Verdict.the-variants.{ByCap, ByEdge, ByNobody}
+use Rattle.rules.specs.Tolerance.{B}
 use Rattle.rules.specs.Lists.{count, any, times, map-from, sum, crossings}
-use Rattle.rules.specs.Records.{takes-part}
 
 -- A filling under way: the slots, what is left of each edge's capacity, and the rounds so far. (01, Filling)
 pub record Filling : Type 0 where
@@ -37,6 +37,10 @@ unfoldable pub tightest : List Best → Best
 tightest candidates = foldl tighter Nobody candidates
 
 -- ---- who takes part
+
+-- Whether a transfer takes part in a filling: in flight, with more than B bytes left. (01, Filling)
+unfoldable pub takes-part : Transfer → Bool
+takes-part t = t .taken && B ≺ t .«bytes_remaining»
 
 -- A transfer at another rate. (01, Filling)
 unfoldable pub with-rate : Float → Transfer → Transfer
@@ -69,7 +73,8 @@ own-cap i true (AtMost c) = At i c
 unfoldable pub smallest-cap : Filling → Best
 smallest-cap f = tightest (map-from 0 (λ i s. own-cap i (s .unfrozen) (s .transfer .«rate_cap»)) (f .seats))
 
--- The smallest cap wins over the smallest share only where it is strictly below it. (01, Filling)
+-- The smallest cap wins over the smallest share only where it is strictly below it. With neither there is nobody to freeze, which never
+-- happens (`never-by-nobody` in fairness) and stands here because the Rust has the branch. (01, Filling)
 unfoldable pub verdict : Best → Best → Verdict
 verdict Nobody Nobody = ByNobody
 verdict Nobody (At e x) = ByEdge e x
@@ -112,7 +117,7 @@ module _ (path : Transfer → List ℕ) where
 
   -- ---- a round
 
-  -- An edge's load: its crossings by unfrozen transfers, repeats counted. (01, Filling)
+  -- An edge's load: how often those still waiting cross it, each time. (01, Filling)
   unfoldable pub load : List Seat → ℕ → ℕ
   load seats e = sum (map (λ s. cond (s .unfrozen) (crossings e (path (s .transfer))) 0) seats)
 
@@ -132,15 +137,17 @@ module _ (path : Transfer → List ℕ) where
   unfoldable pub crossings-frozen : Verdict → List Seat → ℕ → ℕ
   crossings-frozen v seats e = sum (map-from 0 (λ i s. cond (freezes v i s) (crossings e (path (s .transfer))) 0) seats)
 
-  -- One round: the verdict, those it names frozen, and each edge less their rate once for each of their crossings. (01, Filling)
+  -- A verdict carried out: those it names frozen, and each edge less their rate once for each of their crossings. (01, Filling)
+  unfoldable pub frozen-by : Verdict → Filling → Filling
+  frozen-by v f = record {
+    seats = map-from 0 (freeze v) (f .seats);
+    residual = map-from 0 (λ e r. times (crossings-frozen v (f .seats) e) (spend (rate-by v)) r) (f .residual);
+    rounds = suc (f .rounds);
+  }
+
+  -- One round: what the smallest cap and the smallest share decide, carried out. (01, Filling)
   unfoldable pub round : Filling → Filling
-  round f =
-      let v = verdict (smallest-cap f) (winning-edge f) in
-      record {
-        seats = map-from 0 (freeze v) (f .seats);
-        residual = map-from 0 (λ e r. times (crossings-frozen v (f .seats) e) (spend (rate-by v)) r) (f .residual);
-        rounds = suc (f .rounds);
-      }
+  round f = frozen-by (verdict (smallest-cap f) (winning-edge f)) f
 
   -- ---- the rounds
 

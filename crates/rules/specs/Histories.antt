@@ -1,4 +1,4 @@
--- Histories: calls and questions made one after another, and what each gives. Definitions only.
+-- Histories: calls and questions made one after another, and what each gives. (01, How far each contract reaches) Definitions only.
 use Prim.Native.Nat.{ℕ}
 use mathlib.Core.Bool.{Bool, true, _&&_, cond}
 use mathlib.Core.List.{List, [], _∷_, _++_}
@@ -22,7 +22,8 @@ use Rattle.rules.specs.Queue
 use Rattle.rules.specs.Calls
 use Rattle.rules.specs.Questions
 
--- A call or a question with its arguments. Where a buffer is lent, the first number is its length.
+-- A call or a question with its arguments; `submit` and `estimate-new` have their cap, `Uncapped` where there is none. Where a buffer is lent, the first
+-- number is its length.
 pub data Call : Type 0 where
   advance : ℕ → Float → Call
   submit : ℕ → Owner → List ℕ → ℕ → Float → Cap → Float → Call
@@ -40,12 +41,12 @@ pub data Call : Type 0 where
   contains : ℕ → Call
   rounds : Call
 
--- Whether the arguments that are doubles are doubles indeed, as a caller's always are; the other arguments may be any numbers.
+-- Whether a cap that is a double is one indeed.
 unfoldable pub typed-cap : Cap → Bool
 typed-cap (AtMost c) = fits binary64 c
 typed-cap Uncapped = true
 
--- Whether a call's doubles are doubles.
+-- Whether the arguments that are doubles are doubles indeed, as a caller's always are; the other arguments may be any numbers.
 unfoldable pub typed : Call → Bool
 typed (advance size T) = fits binary64 T
 typed (submit id owner path bytes latency cap T) = fits binary64 latency && (typed-cap cap && fits binary64 T)
@@ -71,12 +72,12 @@ pub data Said : Type 0 where
   truth : Bool → Said
   number : ℕ → Said
 
--- A delay as numbers: which of its cases, and its seconds by their bits.
+-- A delay as numbers: which of its cases, and its seconds by their bits. (01, Our forms)
 unfoldable pub told-delay : Delay → List ℕ
 told-delay (After x) = 1 ∷ bits-of x ∷ []
 told-delay Never = 0 ∷ []
 
--- An answer as numbers: which of its cases, and document 01's number or value there, a double by its bits.
+-- An answer as numbers: which of its cases, and document 01's number or value there, a double by its bits. (01, Our forms)
 unfoldable pub told-answer : Answer → List ℕ
 told-answer Done = 0 ∷ []
 told-answer (Added n) = 1 ∷ n ∷ []
@@ -87,7 +88,7 @@ told-answer (Value x) = 5 ∷ bits-of x ∷ []
 told-answer (Wait d) = 6 ∷ told-delay d
 told-answer (Refused n) = 7 ∷ n ∷ []
 
--- An edge, or its refusal, as numbers.
+-- An edge, or its refusal, as numbers. (01, Our forms)
 unfoldable pub told-edge : EdgeRead → List ℕ
 told-edge (EdgeRead-variants.Found e) = 0 ∷ bits-of (e .capacity) ∷ bits-of (e .«bytes_moved») ∷ bits-of (e .«busy_transfer_seconds») ∷ []
 told-edge (EdgeRead-variants.Refused n) = 1 ∷ n ∷ []

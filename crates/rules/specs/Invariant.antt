@@ -1,4 +1,4 @@
--- The invariant of a simulator: what holds at the start and after every call. It is the one premise of any contract. Statements only.
+-- The invariant of a simulator: what holds at the start and after every call. It is the one premise of any contract. (01, How far each contract reaches) Statements only.
 use Prim.Native.Nat.{ℕ, _+_, _^_, _≤_, _<_}
 use mathlib.Core.Path.{_≡_}
 use mathlib.Core.Logic.{_⊎_}

@@ -9,7 +9,7 @@ pub mod Queue
 pub mod Calls
 pub mod Questions
 pub mod Histories
-pub mod Refused
+pub mod Unmoved
 pub mod Invariant
 pub mod Fair
 pub mod Tallies

@@ -20,22 +20,23 @@ use Rattle.rules.specs.declared.Answer.the-variants.{Value, Wait, Unknow
 use Rattle.rules.specs.declared.Outcome.{Outcome}
 use Rattle.rules.specs.declared.Flows.{Flows}
 use Rattle.rules.specs.Lists.{any}
-use Rattle.rules.specs.Records.{no-edge, path-of, takes-part, crossings-by, of-id}
+use Rattle.rules.specs.Records.{no-edge, path-of, of-id}
+use Rattle.rules.specs.Filling.{takes-part}
 use Rattle.rules.specs.Done.{done-eps, time-to-done}
-use Rattle.rules.specs.Clock.{ensure-rates}
-use Rattle.rules.specs.Refusals.{_when_, refusing, answering, not-a-number, not-an-amount, not-a-cap, no-such-edge, too-long, read-cap}
+use Rattle.rules.specs.Clock.{crossings-by, ensure-rates}
+use Rattle.rules.specs.Refusals.{_when_, refusing, answering, not-finite, not-an-amount, not-a-cap, no-such-edge, too-long, read-cap}
 use Rattle.rules.specs.Calls.{drained-to-clock}
 
 -- ---- the next completion
 
 -- How far ahead of the clock next-done lies; one that is past is now. (01, Questions)
-unfoldable pub until : Float → NextDone → Delay
-until now Nobody = Never
-until now (At next) = After (larger (next ⊖ now) nought)
+unfoldable pub delay-until : Float → NextDone → Delay
+delay-until now Nobody = Never
+delay-until now (At next) = After (larger (next ⊖ now) nought)
 
 -- The time to the next completion under rates brought up to date. (01, Questions)
 unfoldable pub next-completion-delay : Flows → Outcome
-next-completion-delay f = let g = ensure-rates f in answering (Wait (until (g .clock .now) (g .clock .«next_done_at»))) g
+next-completion-delay f = let g = ensure-rates f in answering (Wait (delay-until (g .clock .now) (g .clock .«next_done_at»))) g
 
 -- ---- estimates
 
@@ -66,11 +67,11 @@ unfoldable pub estimate : Flows → List ℕ → Float → Float → Cap → Flo
 estimate f [] bytes latency cap = time-alone latency bytes cap
 estimate f (e ∷ path) bytes latency cap = time-at-share latency bytes (capped cap (path-share f (e ∷ path)))
 
--- The time that one more transfer would need as things stand; bytes left are as at the last drain. (01, Questions)
+-- The time that one more transfer would need as things stand: nothing is drained or filled for the question. (01, Questions)
 unfoldable pub estimate-new-capped : List ℕ → Float → Float → Cap → Flows → Answer
 estimate-new-capped path bytes latency cap f =
     refusing
-    (1 when (not-an-amount bytes || not-a-number latency || not-a-cap cap)
+    (1 when (not-an-amount bytes || not-finite latency || not-a-cap cap)
     ∷ 3 when any (no-such-edge f) path
     ∷ 4 when too-long path
     ∷ []) Refused
@@ -107,7 +108,7 @@ mean-over until e = cond (nought ≺ until) (e .«busy_transfer_seconds» ⊘ un
 unfoldable pub mean-in-flight : ℕ → Float → Flows → Answer
 mean-in-flight e until f =
     refusing
-    (1 when not-a-number until
+    (1 when not-finite until
     ∷ 3 when no-such-edge f e
     ∷ []) Refused
     (Value (mean-over until (getD (f .edges) e no-edge)))

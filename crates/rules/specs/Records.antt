@@ -1,11 +1,11 @@
 -- What a simulator holds, how its parts are read, and how one part is put in another's place. (01, Sizes) Definitions only.
 use Prim.Native.Nat.{ℕ, _-_}
 use mathlib.Core.Bool.{Bool, true, false, _&&_, _||_, cond}
-use mathlib.Core.List.{List, [], _∷_, _++_, map}
+use mathlib.Core.List.{List, [], _∷_, _++_}
 use lib.Dec.{eqb, ltb}
 use lib.ListN.{length, take, replicate}
 use lib.Ieee.{Float}
-use Rattle.doubles.specs.Doubles.{_≺_, nought}
+use Rattle.doubles.specs.Doubles.{nought}
 use Rattle.rules.specs.declared.Owner.{Owner}
 use Rattle.rules.specs.declared.Owner.the-variants.{Worker, Handoff, Write}
 use Rattle.rules.specs.declared.Cap.the-variants.{Uncapped}
@@ -19,8 +19,8 @@ use Rattle.rules.specs.declared.Totals.{Totals}
 use Rattle.rules.specs.declared.EdgeLoad.{EdgeLoad}
 use Rattle.rules.specs.declared.Clock.{Clock}
 use Rattle.rules.specs.declared.Flows.{Flows}
-use Rattle.rules.specs.Lists.{count, any, sum, crossings}
-use Rattle.rules.specs.Tolerance.{B, default-tolerance}
+use Rattle.rules.specs.Lists.{count, any}
+use Rattle.rules.specs.Tolerance.{default-tolerance}
 
 -- ---- sizes
 
@@ -32,7 +32,7 @@ max-edges = 64
 abbrev pub max-path : ℕ
 max-path = 8
 
--- The most transfers in flight and uncollected completions together. (01, Sizes)
+-- The most that can be in flight or wait to be collected, both counted. (01, Sizes)
 abbrev pub max-slots : ℕ
 max-slots = 256
 
@@ -92,26 +92,14 @@ own-path t = take (t .path .len) (t .path .hops)
 abbrev pub path-of : Flows → Transfer → List ℕ
 path-of f = own-path
 
--- Whether a transfer's crossings count in the load of edges: all in flight do. (01, Clock)
-unfoldable pub counts-in-loads : Transfer → Bool
-counts-in-loads t = t .taken
-
--- Whether a transfer takes part in a filling: in flight, with more than B bytes left. (01, Filling)
-unfoldable pub takes-part : Transfer → Bool
-takes-part t = t .taken && B ≺ t .«bytes_remaining»
-
--- Whether a slot holds the transfer with that id. (01, Sizes)
+-- Whether a slot holds the transfer with that id. (01, Numbers)
 unfoldable pub has-id : ℕ → Transfer → Bool
 has-id id t = t .taken && eqb (t .id) id
 
--- What `some` gives of the transfer with that id, and `none` where no slot holds one. (01, Sizes)
+-- What `some` gives of the transfer with that id, and `none` where no slot holds one. (01, Numbers and Questions)
 unfoldable pub of-id : {A : Type 0} → ℕ → A → (Transfer → A) → List Transfer → A
 of-id id none some [] = none
 of-id id none some (t ∷ slots) = let past = of-id id none some slots in cond (has-id id t) (some t) past
-
--- The crossings of edge e by the transfers that pass a test. (01, Filling)
-unfoldable pub crossings-by : (Transfer → Bool) → (Transfer → List ℕ) → List Transfer → ℕ → ℕ
-crossings-by p path slots e = sum (map (λ t. cond (p t) (crossings e (path t)) 0) slots)
 
 -- ---- the simulator as read
 
@@ -189,7 +177,7 @@ with-totals totals f = record { edges = f .edges; «num_edges» = f .«num_edges
 unfoldable pub at-time : Float → Flows → Flows
 at-time T f = with-clock (record { now = T; «rates_dirty» = f .clock .«rates_dirty»; «next_done_at» = f .clock .«next_done_at»; rounds = f .clock .rounds }) f
 
--- Rates gone stale; next-done and the round number stay readable. (01, Clock)
+-- Rates gone stale; next-done and the round number stay as they were. (01, Clock)
 unfoldable pub made-stale : Flows → Flows
 made-stale f = with-clock (record { now = f .clock .now; «rates_dirty» = true; «next_done_at» = f .clock .«next_done_at»; rounds = f .clock .rounds }) f
 

@@ -50,8 +50,8 @@ refused-lent f buffer n = lent (refused f n) buffer
 -- ---- the causes
 
 -- 1: NaN or infinite. (01, Numbers)
-unfoldable pub not-a-number : Float → Bool
-not-a-number x = not (is-finite x)
+unfoldable pub not-finite : Float → Bool
+not-finite x = not (is-finite x)
 
 -- 1: NaN, infinite or below zero. (01, Numbers)
 unfoldable pub not-an-amount : Float → Bool

@@ -16,6 +16,6 @@ F = nearest 1 1000000000000
 abbrev pub default-tolerance : Tolerance
 default-tolerance = record { floor = F }
 
--- Seconds that count as none at a clock time: four steps of a double at the clock, and never less than the floor. (01, Tolerance)
+-- Seconds that count as none at a clock time: the clock times four over 2^52, and never less than the floor. (01, Tolerance)
 unfoldable pub eps : Tolerance → Float → Float
 eps tolerance clock = larger (clock ⊗ whole 4 ⊗ nearest 1 (2 ^ 52)) (tolerance .floor)

@@ -75,6 +75,7 @@ pub struct Tally {
     pub bytes_submitted: f64,
 }
 
+// What has been counted in all, and the most that were ever in flight at once.
 pub struct Totals {
     pub peak_in_flight: usize,
     pub worker: Tally,
@@ -180,7 +181,7 @@ impl Tolerance {
         }
     }
 
-    // Seconds that count as none at a clock time: four steps of the clock there, or the floor.
+    // Seconds that count as none at a clock time: the clock times four over 2^52, or the floor.
     pub fn eps(self, clock: f64) -> f64
         ensures { λ r. ⌜ r ≡ eps self clock ⌝ }
     {

@@ -9,7 +9,7 @@ ghost use mathlib.Core.Bool.{_||_};
 ghost use Prim.Native.Nat.{_≤_};
 ghost use lib.ListN.{length};
 ghost use Rattle.doubles.specs.Doubles.{read-zero};
-ghost use Rattle.rules.specs.Refusals.{not-a-number, not-a-cap, not-a-time, read-cap};
+ghost use Rattle.rules.specs.Refusals.{not-finite, not-a-cap, not-a-time, read-cap};
 ghost use Rattle.rules.specs.Calls.{submitted-transfer, submit-capped, submit};
 ghost use Rattle.rules.specs.Invariant.{Invariant};
 
@@ -66,9 +66,9 @@ pub fn submit_capped(
 
 // Whether one of the numbers cannot be taken.
 fn not_numbers(latency: f64, rate_cap: Cap, until: f64) -> bool
-    ensures { λ r. ⌜ r ≡ (not-a-number latency || not-a-cap «rate_cap» || not-a-time until) ⌝ }
+    ensures { λ r. ⌜ r ≡ (not-finite latency || not-a-cap «rate_cap» || not-a-time until) ⌝ }
 {
-    if arguments::not_a_number(latency) {
+    if arguments::not_finite(latency) {
         return true;
     }
     if arguments::not_a_cap(rate_cap) {

@@ -6,9 +6,9 @@ use rules::Transfer;
 ghost use mathlib.Core.Path.{_≡_};
 ghost use mathlib.Core.Bool.{cond};
 ghost use Rattle.rules.specs.Tolerance.{eps};
-ghost use Rattle.rules.specs.Records.{takes-part, counts-in-loads};
+ghost use Rattle.rules.specs.Filling.{takes-part};
 ghost use Rattle.rules.specs.Done.{is-done, time-to-done, sooner};
-ghost use Rattle.rules.specs.Clock.{soonest, ahead};
+ghost use Rattle.rules.specs.Clock.{counts-in-loads, soonest, ahead};
 
 // ---- who counts
 

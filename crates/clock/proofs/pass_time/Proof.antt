@@ -4,8 +4,8 @@ use mathlib.Core.Logic.{⊎-elim}
 use Rattle.doubles.specs.Doubles.{_⊖_}
 use mathlib.Core.Path.{_≡_, _∙_}
 use Rattle.rules.specs.Lists.{map-from}
-use Rattle.rules.specs.Records.{path-of, counts-in-loads, crossings-by, with-edges, with-clock, at-time}
-use Rattle.rules.specs.Clock.{gain-busy, pass-time}
+use Rattle.rules.specs.Records.{path-of, with-edges, with-clock, at-time}
+use Rattle.rules.specs.Clock.{crossings-by, counts-in-loads, gain-busy, pass-time}
 use Rattle.clock.proofs.Busy.{busy-by-load}
 use Rattle.clock.proofs.pass_time.Statement.{statement}
 use Rattle.clock.proofs.pass_time.Tie as tie

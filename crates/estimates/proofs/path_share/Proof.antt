@@ -6,10 +6,10 @@ use lib.ListN.{length, getD, drop, drop-of-length-le}
 use mathlib.Core.Path.{_≡_, refl}
 use native.Mathlib.Omega.{arith}
 use Rattle.doubles.specs.Doubles.{smaller}
-use Rattle.estimates.proofs.Shares.{least-by, least-share}
-use Rattle.estimates.specs.Shares.{share-by}
+use Rattle.estimates.proofs.Shares.{share-by, least-by, least-share}
 use Rattle.rules.proofs.Steps.{foldl-one, getD-any}
-use Rattle.rules.specs.Records.{no-edge, takes-part}
+use Rattle.rules.specs.Records.{no-edge}
+use Rattle.rules.specs.Filling.{takes-part}
 use Rattle.crossings.proofs.Loads.{loads-bound}
 use Rattle.rules.proofs.Routes.{all-room}
 use Rattle.estimates.proofs.path_share.Statement.{statement}

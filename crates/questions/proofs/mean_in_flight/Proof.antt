@@ -10,19 +10,19 @@ use Rattle.rules.specs.Refusals.{refusing}
 use Rattle.questions.proofs.mean_in_flight.Statement.{statement}
 use Rattle.questions.proofs.mean_in_flight.Tie as tie
 
-not-a-number-requires : tie.Need-not-a-number-requires
-not-a-number-requires c κs = search needs
+not-finite-requires : tie.Need-not-finite-requires
+not-finite-requires c κs = search needs
 
 no-such-edge-requires : tie.Need-no-such-edge-requires
 no-such-edge-requires c κs = search needs
 
 returns : tie.Need-returns
 unfolding mean-in-flight refusing
-returns c = rw (← c .before .before .not-a-number .ensures, ← c .before .no-such-edge .ensures, c .if1 .taken)
+returns c = rw (← c .before .before .not-finite .ensures, ← c .before .no-such-edge .ensures, c .if1 .taken)
 
 returns-2 : tie.Need-returns-2
 unfolding mean-in-flight refusing
-returns-2 c = rw (← c .before .before .before .not-a-number .ensures, ← c .before .before .no-such-edge .ensures, c .before .if1 .left, c .if2 .taken)
+returns-2 c = rw (← c .before .before .before .not-finite .ensures, ← c .before .before .no-such-edge .ensures, c .before .if1 .left, c .if2 .taken)
 
 wide-requires : tie.Need-wide-requires
 wide-requires c κs = search needs
@@ -40,13 +40,13 @@ returns-3 : tie.Need-returns-3
 unfolding mean-in-flight refusing
 returns-3 c =
     let inside = there (c .before .before .before .before .before .before .before .before .pre) (c .before .before .before .before .before .before .before .before .args .edge) (sym (c .before .before .before .before .before .before .no-such-edge .ensures) ∙ c .before .before .before .before .if2 .left) in
-    rw (← c .before .before .before .before .before .before .before .not-a-number .ensures, ← c .before .before .before .before .before .before .no-such-edge .ensures, c .before .before .before .before .before .if1 .left, c .before .before .before .before .if2 .left, c .mean-over .ensures, c .before .before .before .wide .ensures, ← getD-any (c .before .before .before .before .before .before .before .before .args .flows .edges) (c .before .before .before .before .before .before .before .before .args .edge) no-edge)
+    rw (← c .before .before .before .before .before .before .before .not-finite .ensures, ← c .before .before .before .before .before .before .no-such-edge .ensures, c .before .before .before .before .before .if1 .left, c .before .before .before .before .if2 .left, c .mean-over .ensures, c .before .before .before .wide .ensures, ← getD-any (c .before .before .before .before .before .before .before .before .args .flows .edges) (c .before .before .before .before .before .before .before .before .args .edge) no-edge)
 
 pub mean-in-flight-spec : {M : Type 1} → statement M
 mean-in-flight-spec =
     tie.close
     (tie.spec
-    not-a-number-requires
+    not-finite-requires
     no-such-edge-requires
     returns
     returns-2

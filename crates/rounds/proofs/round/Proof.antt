@@ -3,8 +3,7 @@ use mathlib.Core.Path.{_≡_, refl, sym, ap, _∙_}
 use mathlib.Core.Bool.{Bool, true, false, cond}
 use mathlib.Core.Logic.{⊎-elim}
 use Prim.Native.Nat.{_+_, _-_}
-use Rattle.rules.specs.Filling.{num-unfrozen}
-use Rattle.rounds.specs.Standing.{frozen-by}
+use Rattle.rules.specs.Filling.{num-unfrozen, frozen-by}
 use Rattle.rounds.proofs.Freezing.{filling-same, Freezing, freezing-starts, freezing-asks, freezing-one, seats-done, edges-done, loads-done, count-done}
 use borrow.Author.Needs.{needs}
 use native.Mathlib.Omega.{arith}

@@ -14,7 +14,7 @@ use Rattle.keeps.proofs.Arguments.{time-clock, time-no-earlier}
 use Rattle.keeps.proofs.Calls.{submit-capped-keeps}
 use Rattle.keeps.proofs.Refusing.{neither}
 use Rattle.rules.specs.Calls.{submitted-transfer, submit-capped, submitted}
-use Rattle.rules.specs.Refusals.{refusing, not-a-number, not-a-cap, not-a-time, no-such-edge, too-long}
+use Rattle.rules.specs.Refusals.{refusing, not-finite, not-a-cap, not-a-time, no-such-edge, too-long}
 use Rattle.submission.proofs.Typed.{cap-typed}
 use Rattle.starting.specs.Started.{inserted, started, start}
 use Rattle.submission.proofs.submit_capped.Statement.{statement}
@@ -120,7 +120,7 @@ start-requires c κs =
     let entry = c .before .before .before .before .before .before .before .before .before .before in
     let until = entry .args .until in
     let typed : T (fits binary64 until) = search needs in
-    let time = neither (not-a-number (entry .args .latency) || not-a-cap (entry .args .rate-cap)) (not-a-time until) (sym (c .before .before .before .before .before .before .before .before .not-numbers .ensures) ∙ c .before .before .before .before .before .before .before .if1 .left) .1 in
+    let time = neither (not-finite (entry .args .latency) || not-a-cap (entry .args .rate-cap)) (not-a-time until) (sym (c .before .before .before .before .before .before .before .before .not-numbers .ensures) ∙ c .before .before .before .before .before .before .before .if1 .left) .1 in
     let own-time : c .submitted-transfer .result .«last_update» ≡ read-zero until = rw (c .submitted-transfer .ensures) in
     rw own-time (entry .pre, (time-clock until typed time, time-no-earlier until typed time (entry .pre .clock .plain) (c .before .before .before .before .before .if2 .left)))
 

@@ -1,6 +1,6 @@
 -- `counts_in_loads` is its definition. Assumes nothing.
 use mathlib.Core.Path.{refl}
-use Rattle.rules.specs.Records.{counts-in-loads}
+use Rattle.rules.specs.Clock.{counts-in-loads}
 use Rattle.transfers.proofs.counts_in_loads.Statement.{statement}
 use Rattle.transfers.proofs.counts_in_loads.Tie as tie
 

@@ -1,6 +1,6 @@
 -- `takes_part` is its definition, test by test. Assumes nothing.
 use lib.Ieee.{ofBits, round}
-use Rattle.rules.specs.Records.{takes-part}
+use Rattle.rules.specs.Filling.{takes-part}
 use Rattle.transfers.proofs.takes_part.Statement.{statement}
 use Rattle.transfers.proofs.takes_part.Tie as tie
 
