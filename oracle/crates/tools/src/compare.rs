@@ -122,25 +122,15 @@ impl Program {
         let output = Scratch::new("output");
         let trouble = |e: std::io::Error| format!("{}: {e}", self.command);
         std::fs::write(&script.0, lines.join("\n") + "\n").map_err(trouble)?;
-        let mut child = Command::new("sh")
-            .args(["-c", &self.command])
+        // Out of time, the program goes with the shell that started it, and what it has said so far is its answer.
+        let status = Command::new("timeout")
+            .args(["--signal=KILL", &self.seconds.to_string(), "sh", "-c", &self.command])
             .stdin(Stdio::from(File::open(&script.0).map_err(trouble)?))
             .stdout(Stdio::from(File::create(&output.0).map_err(trouble)?))
-            .spawn()
+            .status()
             .map_err(trouble)?;
-        let end = Instant::now() + Duration::from_secs(self.seconds);
-        let status = loop {
-            if let Some(status) = child.try_wait().map_err(trouble)? {
-                break status;
-            }
-            if Instant::now() > end {
-                // Out of time: what it has said so far is its answer.
-                break child.kill().and_then(|_| child.wait()).map_err(trouble)?;
-            }
-            std::thread::sleep(Duration::from_millis(2));
-        };
-        // The shell's ways to say that there is no such program.
-        if matches!(status.code(), Some(126 | 127)) {
+        // The ways of timeout and of the shell to say that there is no such program.
+        if matches!(status.code(), Some(125..=127)) {
             return Err(format!("{}: cannot be run", self.command));
         }
         let text = std::fs::read(&output.0).map_err(trouble)?;

@@ -8,8 +8,8 @@ fn main() {
     let mut words: Vec<String> = std::env::args().skip(1).collect();
     let seconds = option(&mut words, "--seconds", 600);
     let shrinking = option(&mut words, "--shrinking", 60);
-    let [left, right, file] = words.as_slice() else {
-        give_up("usage: compare [--seconds N] [--shrinking N] LEFT RIGHT SCRIPT");
+    let ([left, right, file], 1..) = (words.as_slice(), seconds) else {
+        give_up("usage: compare [--seconds N] [--shrinking N] LEFT RIGHT SCRIPT, with a second or more");
     };
     let text = std::fs::read(file).unwrap_or_else(|e| give_up(&format!("compare: {file}: {e}")));
     let lines = calls(&String::from_utf8_lossy(&text));
@@ -24,13 +24,11 @@ fn main() {
     }
 }
 
-/// Takes an option and its number off the front of the words.
+/// Takes an option and its number out of the words.
 fn option(words: &mut Vec<String>, name: &str, default: u64) -> u64 {
-    if words.first().is_none_or(|word| word != name) {
-        return default;
-    }
-    let number = words.get(1).and_then(|n| n.parse().ok()).unwrap_or_else(|| give_up(&format!("compare: {name} takes a number")));
-    words.drain(..2);
+    let Some(at) = words.iter().position(|word| word == name) else { return default };
+    let number = words.get(at + 1).and_then(|n| n.parse().ok()).unwrap_or_else(|| give_up(&format!("compare: {name} takes a number")));
+    words.drain(at..at + 2);
     number
 }
 

@@ -25,5 +25,6 @@ fn main() {
         };
         written.unwrap_or_else(|e| tools::give_up(&format!("exact: {e}")));
     }
+    out.flush().unwrap_or_else(|e| tools::give_up(&format!("exact: {e}")));
     eprintln!("exact: {within} of {calls} calls in the domain");
 }

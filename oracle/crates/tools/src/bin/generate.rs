@@ -1,6 +1,6 @@
 //! generate SEED COUNT PROFILE: COUNT lines of random script on standard output.
 
-use std::io::Write;
+use std::io::{ErrorKind, Write};
 use tools::generator::{profile, script};
 
 fn main() {
@@ -10,8 +10,12 @@ fn main() {
         std::process::exit(2);
     };
     let text = script(seed, count, profile).join("\n") + "\n";
-    // A reader that stops early is no fault of ours.
-    let _ = std::io::stdout().write_all(text.as_bytes());
+    let mut out = std::io::stdout();
+    match out.write_all(text.as_bytes()).and_then(|()| out.flush()) {
+        // A reader that stops early is no fault of ours.
+        Err(e) if e.kind() != ErrorKind::BrokenPipe => tools::give_up(&format!("generate: {e}")),
+        _ => {}
+    }
 }
 
 fn read(words: &[String]) -> Option<(u64, usize, tools::generator::Profile)> {
