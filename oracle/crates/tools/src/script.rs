@@ -39,9 +39,9 @@ pub enum Line {
     Malformed,
 }
 
-/// Takes the remark off a line, and the blanks around the rest.
+/// Takes the remark off a line, and the blanks around the rest: space, tab, carriage return and form feed, no others.
 pub fn without_remark(line: &str) -> &str {
-    line.split('#').next().unwrap_or("").trim()
+    line.split('#').next().unwrap_or("").trim_ascii()
 }
 
 pub fn read_line(line: &str) -> Line {
@@ -273,5 +273,14 @@ mod tests {
         }
         assert!(matches!(read_line("  # only a remark"), Line::Blank));
         assert!(matches!(read_line("now 1"), Line::Malformed));
+    }
+
+    #[test]
+    fn four_bytes_are_blanks() {
+        assert!(matches!(read_line(" \t\r\x0c"), Line::Blank));
+        assert!(matches!(read_line("\x0c contains\t1\r"), Line::Call(Call::Contains { id: 1 })));
+        for other in ["\x0b", "\u{a0}", "now\x0b", "\u{a0}now", "now\u{2003}"] {
+            assert!(matches!(read_line(other), Line::Malformed), "{other:?}");
+        }
     }
 }
