@@ -1,5 +1,5 @@
-//! faults VECTORS [--calls N] [--seed S]: runs every seeded fault against the vectors and against a random run, and
-//! prints what caught it. Ends with 1 where one got through.
+//! faults VECTORS CALLS SEED: runs every seeded fault against the vectors and against a random run, and prints the page
+//! that says what caught it. Ends with 1 where one got through.
 
 mod odd_slots;
 
@@ -25,20 +25,31 @@ struct Run {
 
 fn main() {
     let words: Vec<String> = std::env::args().skip(1).collect();
-    let setting = |name: &str| words.iter().position(|w| w == name).and_then(|i| words.get(i + 1)).and_then(|n| n.parse().ok());
-    let Some(folder) = words.first() else { give_up("usage: faults VECTORS [--calls N] [--seed S]") };
-    let (calls, seed) = (setting("--calls").unwrap_or(200_000), setting("--seed").unwrap_or(501));
+    let Some((folder, calls, seed)) = read(&words) else { give_up("usage: faults VECTORS CALLS SEED") };
     let vectors = vectors(Path::new(folder));
-    let random = random_runs(calls, seed as u64);
+    let random = random_runs(calls, seed);
+    let total: usize = random.iter().map(|run| run.lines.len()).sum();
+    println!("{}", heading(total, seed));
     // A fault that panics is caught too; its message is of no use here.
     std::panic::set_hook(Box::new(|_| {}));
     let rows = verdicts(&vectors, &random);
     let (faulty, harmless) = rows.split_at(FAULTS.len());
     let missed = show_faults(faulty);
-    let total: usize = random.iter().map(|run| run.lines.len()).sum();
     println!("\n{} faults, {missed} not caught; {} vector files, {total} random calls.", FAULTS.len(), vectors.len());
     let told_apart = show_harmless(harmless);
     std::process::exit(i32::from(missed > 0 || told_apart > 0));
+}
+
+fn read(words: &[String]) -> Option<(&String, usize, u64)> {
+    let [folder, calls, seed] = words else { return None };
+    Some((folder, calls.parse().ok()?, seed.parse().ok()?))
+}
+
+/// What stands above the table, with the settings of this run.
+fn heading(calls: usize, seed: u64) -> String {
+    let last = seed + PROFILES.len() as u64 - 1;
+    let settings = [("CALLS", calls.to_string()), ("FIRST", seed.to_string()), ("LAST", last.to_string())];
+    settings.iter().fold(include_str!("../page.md").to_string(), |page, (name, value)| page.replace(name, value))
 }
 
 /// Where the vectors and where the random run caught a copy.
