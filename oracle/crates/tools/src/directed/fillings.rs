@@ -46,7 +46,7 @@ fn small(book: &mut Book) {
         }
         rates(book, expected, rounds);
     }
-    book.begin("case 12: a latency still being paid holds its share");
+    book.begin("case 12: who still pays its latency has its share all the same");
     edge(book, 10.0);
     send(book, 0, None, &[0]);
     book.say("submit 1 0 0 100 5 - 0 1 0");
