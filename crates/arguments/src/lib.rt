@@ -1,8 +1,8 @@
 // Numbers, caps and paths as a caller hands them over: whether they can be taken, and how they are read.
 use rules::Cap;
 use rules::Route;
-ghost use mathlib.Core.Path.{_≡_};
 ghost use Prim.Native.Nat.{_≤_};
+ghost use mathlib.Core.Path.{_≡_};
 ghost use lib.Dec.{leb};
 ghost use lib.ListN.{length};
 ghost use Rattle.rules.specs.Lists.{any};

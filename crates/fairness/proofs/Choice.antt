@@ -9,8 +9,8 @@ use lib.ListN.{length, getD}
 use lib.Ieee.{Float}
 use Rattle.doubles.specs.Doubles.{_⊘_, _≺_, nought, whole, Plain}
 use Rattle.doubles.specs.Exact.{exact}
-use Rattle.doubles.proofs.Tests.{passed, failed}
-use Rattle.doubles.proofs.Ordered.{lt→exact, le→exact, not-below}
+use Rattle.doubles.proofs.Tests.{failed}
+use Rattle.doubles.proofs.Ordered.{le→exact, not-below}
 use Rattle.doubles.proofs.Binary64.{over-count-plain}
 use Rattle.rules.specs.declared.Cap.{Cap}
 use Rattle.rules.specs.declared.Cap.the-variants.{AtMost, Uncapped}
@@ -21,14 +21,6 @@ use Rattle.rules.specs.Filling.{Filling, tightest, load, share, winning-edge, o
 use Rattle.fairness.specs.Ready.{no-seat, seat-at}
 use Rattle.fairness.proofs.Tightest.{PlainBest, Least, tightest-least}
 use Rattle.fairness.proofs.Loads.{unfrozen-inside, smallest-is}
-
--- what is not above is not strictly above, in the test that the rules make
-pub not-smaller : {x y : Float} → Plain x → Plain y → exact x ≤ exact y → (y ≺ x) ≡ false
-not-smaller {x} {y} p q h = go (y ≺ x) refl
-  where
-    go : (b : Bool) → (y ≺ x) ≡ b → b ≡ false
-    go true e = absurd (omega (arith, lt→exact q p (passed e)))
-    go false e = refl
 
 module _ (path : Transfer → List ℕ) (f : Filling) where
   -- what is left of edge e, its load and its share
@@ -73,11 +65,6 @@ module _ (path : Transfer → List ℕ) (f : Filling) where
         let all = tightest-least (λ j r. share j r (load-of j)) 0 (f .residual) nought Nobody tt (λ j h. plain-share (0 + j) (left-of j) (load-of (0 + j)) (plain-left j h) (few-at j h)) in
         let plain : PlainBest (winning-edge path f) = all .0 in
         rw q at plain
-
-    -- in the test's words
-    pub no-smaller-share : (w : ℕ) (x : Float) → winning-edge path f ≡ At w x → (e : ℕ) → e < length (f .residual) → 0 < load-of e → (share-of e ≺ x) ≡ false
-    no-smaller-share w x q e known loaded =
-        not-smaller (winning-plain w x q) (over-count-plain (plain-left e known) (load-of e) loaded (few e known)) (winning-least w x q e known loaded)
 
   -- ---- caps
 

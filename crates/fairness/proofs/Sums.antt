@@ -16,11 +16,11 @@ use Rattle.rules.specs.declared.Seat.{Seat}
 use Rattle.rules.specs.declared.Verdict.{Verdict}
 use Rattle.rules.specs.Lists.{sum, map-from, crossings}
 use Rattle.rules.specs.Clock.{crossings-by}
-use Rattle.rules.specs.Filling.{takes-part, Filling, with-rate, load, rate-by, freezes, freeze, crossings-frozen, frozen-by, round}
+use Rattle.rules.specs.Filling.{takes-part, with-rate, load, rate-by, freezes, freeze, crossings-frozen}
 use Rattle.rules.specs.Fair.{in-demand, k, carried}
 use Rattle.fairness.specs.Ready.{no-seat}
 use Rattle.fairness.proofs.Reading.{KeepsPath}
-use Rattle.fairness.proofs.Rounds.{frozen-at, verdict-of, freezes-both}
+use Rattle.fairness.proofs.Rounds.{frozen-at, freezes-both}
 
 -- ---- sums of numbered elements
 
@@ -63,11 +63,6 @@ module _ (path : Transfer → List ℕ) (v : Verdict) (e : ℕ) where
   pub load-falls : (seats : List Seat) → load path seats e ≡ load path (map-from 0 (freeze path v) seats) e + crossings-frozen path v seats e
   unfolding load crossings-frozen
   load-falls seats = sum-falls no-seat (freeze path v) (λ (s : Seat). cond (s .unfrozen) (crossings e (path (s .transfer))) 0) now 0 seats (λ i m. waits-falls m (getD seats i no-seat))
-
--- no load grows from round to round
-pub round-load : (path : Transfer → List ℕ) (f : Filling) (e : ℕ) → load path (round path f .seats) e ≤ load path (f .seats) e
-unfolding round frozen-by
-round-load path f e = omega (arith, load-falls path (verdict-of path f) e (f .seats))
 
 -- ---- the seats of an edge
 

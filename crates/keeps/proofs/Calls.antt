@@ -13,7 +13,6 @@ use lib.Ieee.Fits.{and-l}
 use Rattle.doubles.specs.Doubles.{_⊕_, _≼_, nought, read-zero, Plain}
 use Rattle.rules.specs.declared.Owner.{Owner}
 use Rattle.rules.specs.declared.Cap.{Cap}
-use Rattle.rules.specs.declared.Cap.the-variants.{Uncapped}
 use Rattle.rules.specs.declared.Completion.{Completion}
 use Rattle.rules.specs.declared.Edge.{Edge}
 use Rattle.rules.specs.declared.Answer.the-variants.{Done, Unknown}
@@ -100,11 +99,6 @@ submit-capped-keeps id owner path bytes latency cap until f typed typed-c typed-
       numbered = eqb-false (tally-of owner (f .totals) .submitted) (2 ^ 64 - 1) (none .1 .1 .1 .1 .1 .1 .1 .0);
     })
     (drain-to-reaches inv (time-clock until typed-t (tests .1)) (time-no-earlier until typed-t (tests .1) (inv .clock .plain) (none .1 .0))))
-
-pub submit-keeps : (id : ℕ) (owner : Owner) (path : List ℕ) (bytes : ℕ) (latency until : Float) (f : Flows)
-    → T (fits binary64 latency) → T (fits binary64 until) → Invariant f → Invariant (Calls.submit id owner path bytes latency until f .flows)
-unfolding Calls.submit typed-cap
-submit-keeps id owner path bytes latency until f typed typed-t inv = submit-capped-keeps id owner path bytes latency Uncapped until f typed tt typed-t inv
 
 -- ---- advance
 

@@ -13,7 +13,7 @@ use Rattle.doubles.proofs.Binary64.{whole-plain, times-nonneg}
 use Rattle.doubles.proofs.Ordered.{exact→le}
 use Rattle.doubles.proofs.Left.{difference-under}
 use Rattle.doubles.proofs.Signs.{plain-nonneg, difference-le-plain}
-use Rattle.doubles.proofs.Chosen.{smaller-first-plain, smaller-second-plain, smaller-second-under, rest-first-plain, rest-second-plain}
+use Rattle.doubles.proofs.Chosen.{smaller-second-plain, smaller-second-under, rest-first-plain, rest-second-plain}
 use Rattle.rules.specs.declared.Transfer.{Transfer}
 use Rattle.rules.specs.declared.Flows.{Flows}
 use Rattle.rules.specs.Clock.{latency-paid, flowing-time, moves, bytes-flowing, drained}
@@ -50,10 +50,6 @@ drained-free until t e = rw e
 module _ {f : Flows} {t : Transfer} {until : Float} (s : SoundTransfer f t) (p : Plain until) (h : T (t .«last_update» ≼ until)) where
   since : Plain (until ⊖ t .«last_update»)
   since = difference-le-plain p (s .updated) h
-
-  pub paid-plain : Plain (latency-paid until t)
-  unfolding latency-paid
-  paid-plain = smaller-first-plain (s .latency) (plain-nonneg since)
 
   pub latency-plain : Plain (t .«latency_remaining» ⊖ latency-paid until t)
   unfolding latency-paid

@@ -2,8 +2,8 @@
 use rules::Answer;
 use rules::Completion;
 use rules::Flows;
-ghost use mathlib.Core.Path.{_≡_};
 ghost use Prim.Native.Nat.{_≤_, _<_, _+_, _*_};
+ghost use mathlib.Core.Path.{_≡_};
 ghost use lib.ListN.{length, take, drop, getD};
 ghost use Rattle.rules.specs.Lists.{any, write-front};
 ghost use Rattle.rules.specs.Records.{no-completion};

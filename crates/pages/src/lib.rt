@@ -1,6 +1,6 @@
 // Text put on a page: a buffer that its owner writes out whenever it is nearly full. Each function answers the place behind what it put.
-ghost use mathlib.Core.Path.{_≡_};
 ghost use Prim.Native.Nat.{_+_, _-_, _<_, _≤_};
+ghost use mathlib.Core.Path.{_≡_};
 ghost use lib.ListN.{length};
 ghost use Rattle.io.specs.Digits.{digits, Fewest};
 ghost use Rattle.doubles.specs.Doubles.{bits-of};

@@ -1,6 +1,6 @@
 // Loops over a path, which is lent as the numbers of its edges in order.
-ghost use mathlib.Core.Path.{_≡_};
 ghost use Prim.Native.Nat.{_+_, _-_};
+ghost use mathlib.Core.Path.{_≡_};
 ghost use lib.ListN.{length};
 ghost use lib.Dec.{eqb};
 ghost use Rattle.doubles.specs.Doubles.{_⊕_};

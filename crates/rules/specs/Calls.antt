@@ -56,7 +56,7 @@ edge-widened e amount f =
     let d = drained-to-clock f in
     made-stale (with-edges (update e (λ edge. record { capacity = wider amount edge; «bytes_moved» = edge .«bytes_moved»; «busy_transfer_seconds» = edge .«busy_transfer_seconds» }) (d .edges)) (d .«num_edges») d)
 
--- 1: the amount is not finite, or the edge is there and would be left with no capacity. An absent edge has none that could go wrong. (01, Numbers)
+-- 1: the amount is not finite, or the edge is there and its new capacity would be no amount. An absent edge has none that could go wrong. (01, Numbers)
 unfoldable pub no-widening : Float → ℕ → Flows → Bool
 no-widening amount e f = not-finite amount || not (no-such-edge f e) && not-an-amount (wider amount (getD (f .edges) e no-edge))
 

@@ -117,7 +117,7 @@ module _ (path : Transfer → List ℕ) where
 
   -- ---- a round
 
-  -- An edge's load: how often those still waiting cross it, each time. (01, Filling)
+  -- An edge's load: how often those still waiting cross it, a repeat being one more. (01, Filling)
   unfoldable pub load : List Seat → ℕ → ℕ
   load seats e = sum (map (λ s. cond (s .unfrozen) (crossings e (path (s .transfer))) 0) seats)
 

@@ -23,7 +23,7 @@ says-no (edge-read e) = false
 says-no (truth b) = false
 says-no (number n) = false
 
--- Whether a call with that answer has changed nothing. Asking for the rate of an unknown id still brings rates up to date.
+-- Whether a call with that answer is promised to have changed nothing. Asking for the rate of an unknown id still brings rates up to date.
 unfoldable pub unmoved : Call → Said → Bool
 unmoved (advance size T) s = says-no s
 unmoved (submit id owner path bytes latency cap T) s = says-no s

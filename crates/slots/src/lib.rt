@@ -1,7 +1,7 @@
 // The table of transfers: who is where, how many there are, and the lowest free slot.
 use rules::Transfer;
-ghost use mathlib.Core.Path.{_≡_};
 ghost use Prim.Native.Nat.{_≤_, _<_};
+ghost use mathlib.Core.Path.{_≡_};
 ghost use Rattle.rules.specs.Lists.{count};
 ghost use Rattle.rules.specs.Records.{has-id};
 ghost use Rattle.slots.specs.Lookup.{lookup, first-free};

@@ -3,8 +3,8 @@ use rules::Flows;
 use rules::Owner;
 use rules::Tally;
 use rules::Totals;
-ghost use mathlib.Core.Path.{_≡_};
 ghost use Prim.Native.Nat.{_<_, _^_, _+_};
+ghost use mathlib.Core.Path.{_≡_};
 ghost use Rattle.rules.specs.Records.{tally-of, on-tally};
 ghost use Rattle.rules.specs.Calls.{count-submitted, count-completed, count-cancelled};
 

@@ -1,8 +1,8 @@
 // The words of a script's line, and the line while its bytes come in.
 mod line;
 
-ghost use mathlib.Core.Path.{_≡_};
 ghost use Prim.Native.Nat.{_+_, _≤_, min};
+ghost use mathlib.Core.Path.{_≡_};
 ghost use lib.ListN.{length, drop};
 ghost use Rattle.words.specs.Words.{run};
 ghost use Rattle.words.specs.Words.{is-blank as blank, stops as the-end, next-word as the-next-word};

@@ -1,6 +1,6 @@
 // A line while its bytes come in. Its text is kept in a lent buffer, without blanks in front and without its remark.
-ghost use mathlib.Core.Path.{_≡_};
 ghost use Prim.Native.Nat.{_≤_};
+ghost use mathlib.Core.Path.{_≡_};
 use crate::is_blank;
 
 // How much of the buffer is the line's, whether the rest of it is a remark, and whether it had more bytes than the buffer.
