@@ -12,11 +12,10 @@ use Rattle.rules.specs.declared.Outcome.{Outcome}
 use Rattle.rules.specs.declared.Answer.the-variants.{Listed}
 use Rattle.rules.specs.declared.Flows.{Flows}
 use Rattle.rules.specs.Refusals.{refusing, answering, lent, refused-lent, not-a-time}
-use Rattle.rules.specs.Clock.{pass-time}
-use Rattle.rules.specs.Calls.{later-than, quiet, done-list, listing, advance}
+use Rattle.rules.specs.Clock.{pass-time, settled}
+use Rattle.rules.specs.Advance.{later-than, quiet, done-list, list-done, advance}
 use Rattle.rules.specs.Invariant.{Invariant}
 use Rattle.keeps.proofs.Calls.{advance-keeps}
-use Rattle.advance.specs.Settled.{settled}
 
 module _ (until : Float) (f : Flows) (buffer : List ℕ) where
   pub advance-no-time : not-a-time until ≡ true → advance until f buffer ≡ refused-lent f buffer 1
@@ -33,8 +32,8 @@ module _ (until : Float) (f : Flows) (buffer : List ℕ) where
       unfolding advance refusing
       advance-still still = rw (time, late, still) refl
 
-      pub advance-lists : quiet (read-zero until) f ≡ false → advance until f buffer ≡ listing (settled (read-zero until) f) (done-list (settled (read-zero until) f)) f buffer
-      unfolding advance refusing settled
+      pub advance-lists : quiet (read-zero until) f ≡ false → advance until f buffer ≡ list-done (settled (read-zero until) f) (done-list (settled (read-zero until) f)) f buffer
+      unfolding advance refusing
       advance-lists loud = rw (time, late, loud) refl
 
   pub advance-sound : {r : Outcome} → T (fits binary64 until) → Invariant f → r ≡ advance until f buffer .outcome → Invariant (r .flows)

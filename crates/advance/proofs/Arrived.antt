@@ -7,15 +7,13 @@ use lib.Ieee.{Float}
 use Rattle.doubles.specs.Doubles.{_≼_}
 use Rattle.rules.specs.declared.EdgeLoad.{EdgeLoad}
 use Rattle.rules.specs.declared.Flows.{Flows}
-use Rattle.rules.specs.Clock.{edge-loads}
+use Rattle.rules.specs.Clock.{edge-loads, settled}
 use Rattle.rules.specs.Invariant.{ClockTime, Invariant}
 use Rattle.keeps.proofs.Refreshing.{ensure-rates-refreshes, refreshed-at}
 use Rattle.keeps.proofs.Draining.{drain-to-keeps, drained-all}
 use Rattle.leaving.specs.Leaving.{AtClock}
-use Rattle.advance.specs.Settled.{settled}
 
 pub settled-at : {until : Float} {f : Flows} → Invariant f → ClockTime until → T (f .clock .now ≼ until) → AtClock (settled until f)
-unfolding settled
 settled-at {until} {f} inv time later =
     let r = ensure-rates-refreshes (drain-to-keeps inv time later) in
     let all = drained-all inv time later in

@@ -5,61 +5,29 @@ ghost use Rattle.asked.specs.Request.{Within};
 use numbers::Long;
 use numbers::RealWord;
 use numbers::Short;
+use rules::Call;
 use rules::Cap;
+use rules::Estimate;
 use rules::Owner;
+use rules::Submission;
 
-// What a line asks for.
+// What a line asks for: a call of the simulator, or what the program makes of several, or of none.
 pub enum Ask {
     Malformed,
-    Act(Call),
-    List(Listing),
+    // A fresh simulator.
+    New,
+    Make(Call),
+    // From completion to completion up to a time, or until nobody is ever done.
+    RunUntil(f64),
+    Finish,
     See(Look),
 }
 
-// The calls that are lent no buffer.
-pub enum Call {
-    New,
-    AddEdge(f64),
-    Widen(u32, f64),
-    Submit(Submission),
-    Cancel(u32),
-    NextCompletionDelay,
-    EstimateNew(Estimate),
-    EstimateRemaining(u32),
-    MeanInFlight(u32, f64),
-    Rate(u32),
-}
-
-// The calls that list into a lent buffer.
-pub enum Listing {
-    Advance(f64),
-    TakeCompleted(Owner),
-    OwnersWithCompletions,
-}
-
-// The calls that only look.
+// What is told of the state as it stands.
 pub enum Look {
-    Rounds,
-    Contains(u32),
     Now,
-    Edge(u32),
     Counts,
     Dump,
-}
-
-pub struct Submission {
-    pub id: u32,
-    pub owner: Owner,
-    pub bytes: u64,
-    pub latency: f64,
-    pub cap: Cap,
-    pub time: f64,
-}
-
-pub struct Estimate {
-    pub bytes: f64,
-    pub latency: f64,
-    pub cap: Cap,
 }
 
 // What is asked, with the length of its path and of its lent buffer, 0 where it has none.
@@ -111,26 +79,34 @@ pub fn read(line: &[u8], path: &mut [u32]) -> Request
         return take_completed(line, end);
     }
     if check::same(name, b"owners_with_completions") {
-        return lending(line, end, Listing::OwnersWithCompletions);
+        return lending(line, end, Call::OwnersWithCompletions);
     }
     if check::same(name, b"estimate_new") {
         return estimate_new(line, end, path);
     }
-    if check::same(name, b"add_edge") {
-        return add_edge(line, end);
-    }
-    if check::same(name, b"widen") {
-        return widen(line, end);
-    }
-    if check::same(name, b"mean_in_flight") {
-        return mean_in_flight(line, end);
-    }
-    let ask = read_short(name, line, end);
+    let ask = read_plain(name, line, end);
     Request {
         ask,
         hops: 0,
         places: 0,
     }
+}
+
+// The calls with neither a path nor a buffer.
+fn read_plain(name: &[u8], line: &[u8], at: usize) -> Ask {
+    if check::same(name, b"add_edge") {
+        return add_edge(line, at);
+    }
+    if check::same(name, b"widen") {
+        return widen(line, at);
+    }
+    if check::same(name, b"mean_in_flight") {
+        return mean_in_flight(line, at);
+    }
+    if check::same(name, b"run_until") {
+        return run_until(line, at);
+    }
+    read_short(name, line, at)
 }
 
 // The calls with one number or none.
@@ -143,19 +119,19 @@ fn read_short(name: &[u8], line: &[u8], at: usize) -> Ask {
         return Ask::Malformed;
     };
     if check::same(name, b"cancel") {
-        return Ask::Act(Call::Cancel(id));
+        return Ask::Make(Call::Cancel(id));
     }
     if check::same(name, b"estimate_remaining") {
-        return Ask::Act(Call::EstimateRemaining(id));
+        return Ask::Make(Call::EstimateRemaining(id));
     }
     if check::same(name, b"rate") {
-        return Ask::Act(Call::Rate(id));
+        return Ask::Make(Call::Rate(id));
     }
     if check::same(name, b"contains") {
-        return Ask::See(Look::Contains(id));
+        return Ask::Make(Call::Contains(id));
     }
     if check::same(name, b"edge") {
-        return Ask::See(Look::Edge(id));
+        return Ask::Make(Call::Edge(id));
     }
     Ask::Malformed
 }
@@ -163,13 +139,16 @@ fn read_short(name: &[u8], line: &[u8], at: usize) -> Ask {
 // The calls that stand alone.
 fn read_bare(name: &[u8]) -> Ask {
     if check::same(name, b"next_completion_delay") {
-        return Ask::Act(Call::NextCompletionDelay);
+        return Ask::Make(Call::NextCompletionDelay);
     }
     if check::same(name, b"new") {
-        return Ask::Act(Call::New);
+        return Ask::New;
+    }
+    if check::same(name, b"finish") {
+        return Ask::Finish;
     }
     if check::same(name, b"rounds") {
-        return Ask::See(Look::Rounds);
+        return Ask::Make(Call::Rounds);
     }
     if check::same(name, b"now") {
         return Ask::See(Look::Now);
@@ -253,7 +232,7 @@ fn advance(line: &[u8], at: usize) -> Request
     let RealWord::RealTo(time, at) = numbers::double_at(line, at) else {
         return malformed();
     };
-    lending(line, at, Listing::Advance(time))
+    lending(line, at, Call::Advance(time))
 }
 
 fn take_completed(line: &[u8], at: usize) -> Request
@@ -262,40 +241,41 @@ fn take_completed(line: &[u8], at: usize) -> Request
     let OwnerWord::OwnerTo(owner, at) = owner_at(line, at) else {
         return malformed();
     };
-    lending(line, at, Listing::TakeCompleted(owner))
+    lending(line, at, Call::TakeCompleted(owner))
 }
 
-fn add_edge(line: &[u8], at: usize) -> Request
-    ensures { λ r. ⌜ Within r ⌝ }
-{
+fn add_edge(line: &[u8], at: usize) -> Ask {
     let RealWord::RealTo(capacity, at) = numbers::double_at(line, at) else {
-        return malformed();
+        return Ask::Malformed;
     };
-    alone(line, at, Call::AddEdge(capacity))
+    alone(line, at, Ask::Make(Call::AddEdge(capacity)))
 }
 
-fn widen(line: &[u8], at: usize) -> Request
-    ensures { λ r. ⌜ Within r ⌝ }
-{
+fn widen(line: &[u8], at: usize) -> Ask {
     let Short::ShortTo(edge, at) = numbers::short_at(line, at) else {
-        return malformed();
+        return Ask::Malformed;
     };
     let RealWord::RealTo(amount, at) = numbers::double_at(line, at) else {
-        return malformed();
+        return Ask::Malformed;
     };
-    alone(line, at, Call::Widen(edge, amount))
+    alone(line, at, Ask::Make(Call::Widen(edge, amount)))
 }
 
-fn mean_in_flight(line: &[u8], at: usize) -> Request
-    ensures { λ r. ⌜ Within r ⌝ }
-{
+fn mean_in_flight(line: &[u8], at: usize) -> Ask {
     let Short::ShortTo(edge, at) = numbers::short_at(line, at) else {
-        return malformed();
+        return Ask::Malformed;
     };
     let RealWord::RealTo(until, at) = numbers::double_at(line, at) else {
-        return malformed();
+        return Ask::Malformed;
     };
-    alone(line, at, Call::MeanInFlight(edge, until))
+    alone(line, at, Ask::Make(Call::MeanInFlight(edge, until)))
+}
+
+fn run_until(line: &[u8], at: usize) -> Ask {
+    let RealWord::RealTo(time, at) = numbers::double_at(line, at) else {
+        return Ask::Malformed;
+    };
+    alone(line, at, Ask::RunUntil(time))
 }
 
 // ---- how a line ends
@@ -311,22 +291,16 @@ fn malformed() -> Request
 }
 
 // With nothing more.
-fn alone(line: &[u8], at: usize, call: Call) -> Request
-    ensures { λ r. ⌜ Within r ⌝ }
-{
+fn alone(line: &[u8], at: usize, ask: Ask) -> Ask {
     let word = words::next_word(line, at);
     if word.start < word.end {
-        return malformed();
+        return Ask::Malformed;
     }
-    Request {
-        ask: Ask::Act(call),
-        hops: 0,
-        places: 0,
-    }
+    ask
 }
 
 // With the length of the buffer that is lent.
-fn lending(line: &[u8], at: usize, listing: Listing) -> Request
+fn lending(line: &[u8], at: usize, call: Call) -> Request
     ensures { λ r. ⌜ Within r ⌝ }
 {
     let Last::Only(places) = last_number(line, at) else {
@@ -336,7 +310,7 @@ fn lending(line: &[u8], at: usize, listing: Listing) -> Request
         return malformed();
     }
     Request {
-        ask: Ask::List(listing),
+        ask: Ask::Make(call),
         hops: 0,
         places: places as usize,
     }
@@ -361,7 +335,7 @@ fn along(line: &[u8], at: usize, path: &mut [u32], call: Call) -> Request
         return malformed();
     }
     Request {
-        ask: Ask::Act(call),
+        ask: Ask::Make(call),
         hops: count as usize,
         places: 0,
     }

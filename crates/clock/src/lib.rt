@@ -8,8 +8,7 @@ ghost use lib.Dec.{T};
 ghost use lib.ListN.{length};
 ghost use Rattle.doubles.specs.Doubles.{_≺_, _≼_};
 ghost use Rattle.rules.specs.Records.{made-stale};
-ghost use Rattle.rules.specs.Clock.{ensure-rates, pass-time, drain-slots, drain-to, edge-loads};
-ghost use Rattle.rules.specs.Calls.{drained-to-clock};
+ghost use Rattle.rules.specs.Clock.{ensure-rates, pass-time, drain-slots, drain-to, edge-loads, drained-to-clock};
 ghost use Rattle.rules.specs.Invariant.{Invariant, ClockTime};
 
 // Rates worked out anew where the transfers or edges have changed since the last time.

@@ -11,7 +11,8 @@ use Rattle.rules.specs.declared.Edge.{Edge}
 use Rattle.rules.specs.declared.Flows.{Flows}
 use Rattle.rules.specs.Records.{with-edges, made-stale}
 use Rattle.rules.specs.Refusals.{_when_, refusing, answering, refused, no-such-edge}
-use Rattle.rules.specs.Calls.{drained-to-clock, edge-added, wider, edge-widened, no-widening, widen}
+use Rattle.rules.specs.Clock.{drained-to-clock}
+use Rattle.rules.specs.Edges.{edge-added, wider, edge-widened, no-widening, widen}
 use Rattle.rules.specs.Invariant.{Invariant}
 use Rattle.rules.proofs.Steps.{update-is}
 use Rattle.keeps.proofs.Draining.{drained-to-clock-reaches}

@@ -12,7 +12,8 @@ use Rattle.rules.specs.declared.Owner.{Owner}
 use Rattle.rules.specs.declared.Transfer.{Transfer}
 use Rattle.rules.specs.declared.Flows.{Flows}
 use Rattle.rules.specs.Records.{free, has-id, owner-kind, tally-of, with-in-flight, with-totals, made-stale, on-tally}
-use Rattle.rules.specs.Calls.{drained-to-clock, count-cancelled, owner-of, cancelled}
+use Rattle.rules.specs.Clock.{drained-to-clock}
+use Rattle.rules.specs.Cancel.{count-cancelled, owner-of, cancelled}
 use Rattle.rules.specs.Invariant.{of-kind, Invariant}
 use Rattle.slots.specs.declared.Lookup.the-variants.{Slot}
 use Rattle.slots.specs.Lookup.{lookup}

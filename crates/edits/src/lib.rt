@@ -6,7 +6,8 @@ use rules::Outcome;
 use rules::Transfer;
 use slots::Lookup;
 ghost use mathlib.Core.Path.{_≡_};
-ghost use Rattle.rules.specs.Calls.{add-edge, no-widening, widen, cancel};
+ghost use Rattle.rules.specs.Edges.{add-edge, no-widening, widen};
+ghost use Rattle.rules.specs.Cancel.{cancel};
 ghost use Rattle.rules.specs.Invariant.{Invariant};
 
 // One more edge, which gets the next number.

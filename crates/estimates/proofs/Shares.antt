@@ -12,10 +12,10 @@ use Rattle.rules.specs.declared.Cap.{Cap}
 use Rattle.rules.specs.declared.Edge.{Edge}
 use Rattle.rules.specs.declared.Flows.{Flows}
 use Rattle.rules.specs.Lists.{any}
-use Rattle.rules.specs.Records.{no-edge}
+use Rattle.rules.specs.Records.{blank-edge}
 use Rattle.rules.specs.Filling.{takes-part}
 use Rattle.rules.specs.Refusals.{no-such-edge}
-use Rattle.rules.specs.Questions.{new-share, path-share, capped, time-at-share, time-alone, estimate}
+use Rattle.rules.specs.Questions.{new-share, path-share, share-or-cap, time-at-share, time-alone, estimate}
 use Rattle.rules.specs.Invariant.{Invariant}
 use Rattle.paths.specs.Known.{Known}
 use Rattle.crossings.specs.Loads.{loads-by}
@@ -24,7 +24,7 @@ use Rattle.keeps.proofs.Placing.{known-by}
 
 -- The capacity of edge e over its load and one.
 unfoldable pub share-by : List Edge → List ℕ → ℕ → Float
-share-by edges load e = getD edges e no-edge .capacity ⊘ whole (getD load e 0 + 1)
+share-by edges load e = getD edges e blank-edge .capacity ⊘ whole (getD load e 0 + 1)
 
 -- The smallest of the shares along a path and a first one.
 abbrev pub least-by : List Edge → List ℕ → Float → List ℕ → Float
@@ -33,7 +33,7 @@ least-by edges load first path = foldl (λ least e. smaller least (share-by edge
 module _ (f : Flows) where
   share-is : (e : ℕ) → e < 64 → share-by (f .edges) (loads-by takes-part (f .«in_flight»)) e ≡ new-share f e
   unfolding share-by new-share
-  share-is e h = ap (λ (n : ℕ). getD (f .edges) e no-edge .capacity ⊘ whole (n + 1)) (loads-at takes-part (f .«in_flight») e h)
+  share-is e h = ap (λ (n : ℕ). getD (f .edges) e blank-edge .capacity ⊘ whole (n + 1)) (loads-at takes-part (f .«in_flight») e h)
 
   least-is : (path : List ℕ) → Known 64 path → (first : Float) → least-by (f .edges) (loads-by takes-part (f .«in_flight»)) first path ≡ foldl (λ least e. smaller least (new-share f e)) first path
   least-is [] known first = refl
@@ -52,7 +52,7 @@ module _ (f : Flows) (bytes latency : Float) (cap : Cap) where
   over-none [] h = refl
   over-none (e ∷ path) h = absurd (omega arith)
 
-  pub over-some : (path : List ℕ) → (length path ≡ 0 → ⊥) → estimate f path bytes latency cap ≡ time-at-share latency bytes (capped cap (path-share f path))
+  pub over-some : (path : List ℕ) → (length path ≡ 0 → ⊥) → estimate f path bytes latency cap ≡ time-at-share latency bytes (share-or-cap cap (path-share f path))
   unfolding estimate
   over-some [] h = absurd (h refl)
   over-some (e ∷ path) h = refl

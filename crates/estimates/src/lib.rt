@@ -14,7 +14,7 @@ ghost use Prim.Native.Nat.{_+_, _≤_};
 ghost use Rattle.doubles.specs.Doubles.{_⊘_, whole};
 ghost use Rattle.rules.specs.Filling.{takes-part};
 ghost use Rattle.rules.specs.Refusals.{not-finite, not-an-amount, not-a-cap};
-ghost use Rattle.rules.specs.Questions.{estimate-new-capped, estimate-new, estimate, path-share, capped, time-at-share, time-alone, estimate-remaining, remaining, or-nought};
+ghost use Rattle.rules.specs.Questions.{estimate-new-capped, estimate-new, estimate, path-share, share-or-cap, time-at-share, time-alone, estimate-remaining, remaining, or-nought};
 ghost use Rattle.rules.specs.Invariant.{Invariant};
 ghost use Rattle.paths.specs.Known.{Known};
 ghost use Rattle.crossings.specs.Loads.{loads-by};
@@ -80,7 +80,7 @@ fn estimate(flows: Flows, path: &[u32], bytes: f64, latency: f64, cap: Cap) -> f
     let in_flight = flows.in_flight;
     let load = crossings::loads_of(in_flight, Counted::TakingPart);
     let share = path_share(flows, load, path);
-    time_at_share(latency, bytes, capped(cap, share))
+    time_at_share(latency, bytes, share_or_cap(cap, share))
 }
 
 // The smallest share along a path. What the later edges offer is compared with the least of the earlier ones.
@@ -110,8 +110,8 @@ fn new_share(edge: Edge, load: usize) -> f64
 }
 
 // A share, or the cap where that is smaller.
-fn capped(cap: Cap, share: f64) -> f64
-    ensures { λ r. ⌜ r ≡ capped cap share ⌝ }
+fn share_or_cap(cap: Cap, share: f64) -> f64
+    ensures { λ r. ⌜ r ≡ share-or-cap cap share ⌝ }
 {
     let Cap::AtMost(c) = cap else {
         return share;

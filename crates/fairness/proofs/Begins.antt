@@ -15,7 +15,7 @@ use Rattle.rules.specs.declared.Edge.{Edge}
 use Rattle.rules.specs.declared.Transfer.{Transfer}
 use Rattle.rules.specs.declared.Seat.{Seat}
 use Rattle.rules.specs.Lists.{sum, crossings}
-use Rattle.rules.specs.Records.{no-edge, free}
+use Rattle.rules.specs.Records.{blank-edge, free}
 use Rattle.rules.specs.Filling.{takes-part, Filling, lone-rate, entered, seat, start, load}
 use Rattle.rules.specs.Fair.{in-demand}
 use Rattle.fairness.specs.Ready.{no-seat, seat-at}
@@ -72,7 +72,7 @@ module _ (path : Transfer → List ℕ) where
 
       begin-left : (e : ℕ) → left-of path begin e ≡ capacity-of edges e
       unfolding start
-      begin-left e = List·getD-map (λ (edge : Edge). edge .capacity) edges e no-edge
+      begin-left e = List·getD-map (λ (edge : Edge). edge .capacity) edges e blank-edge
 
       begin-account : (e : ℕ) → Plain (capacity-of edges e) → Kept path edges (load-of path begin) begin e
       begin-account e p =

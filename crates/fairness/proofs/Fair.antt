@@ -9,12 +9,12 @@ use Rattle.rules.specs.declared.Flows.{Flows}
 use Rattle.rules.specs.Records.{free, path-of}
 use Rattle.rules.specs.Fair.{in-demand}
 use Rattle.rules.specs.Invariant.{Invariant}
-use Rattle.rules.specs.Promises.{AlwaysFair}
+use Rattle.rules.specs.Promises.{SoundFair}
 use Rattle.fairness.proofs.Ended.{Explains}
 use Rattle.fairness.proofs.Filled.{filled-fair, filled-explained}
 use Rattle.fairness.proofs.Rates.{rated, fillable}
 
-pub fair-filling : AlwaysFair
+pub fair-filling : SoundFair
 fair-filling f inv = filled-fair (fillable f inv)
 
 -- why nobody is faster: everybody of the demand runs at its cap, or crosses an edge that explains its rate

@@ -16,7 +16,7 @@ use Rattle.rules.specs.declared.Edge.{Edge}
 use Rattle.rules.specs.declared.Transfer.{Transfer}
 use Rattle.rules.specs.declared.Seat.{Seat}
 use Rattle.rules.specs.Lists.{times, crossings}
-use Rattle.rules.specs.Records.{no-edge}
+use Rattle.rules.specs.Records.{blank-edge}
 use Rattle.rules.specs.Filling.{Filling, crossings-frozen, spend, frozen-by, round, num-unfrozen}
 use Rattle.rules.proofs.Steps.{getD-map-from}
 use Rattle.fairness.specs.Ready.{seat-at, Ready}
@@ -32,7 +32,7 @@ use Rattle.fairness.proofs.Verdicts.{Chosen, chosen}
 -- ---- an edge
 
 abbrev pub capacity-of : List Edge → ℕ → Float
-capacity-of edges e = getD edges e no-edge .capacity
+capacity-of edges e = getD edges e blank-edge .capacity
 
 -- twice what one rounding on edge e can move
 abbrev pub step-of : List Edge → ℕ → ℕ

@@ -1,4 +1,4 @@
--- The crossings of an edge through a frozen-by, round, seat by seat: what the load loses is what the round freezes, and so much the crossings given and their rates gain. Assumes nothing.
+-- The crossings of an edge through a round, seat by seat: what the load loses is what the round freezes, and so much the crossings given and their rates gain. Assumes nothing.
 use mathlib.Core.Path.{_≡_, refl, sym, ap, _∙_}
 use mathlib.Core.Bool.{Bool, true, false, not, _&&_, cond, true≢false}
 use mathlib.Core.List.{List, [], _∷_, map}

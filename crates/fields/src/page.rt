@@ -1,5 +1,6 @@
 // The page that answers gather on, so that many lines are one write.
 ghost use Prim.Native.Nat.{_≤_};
+ghost use mathlib.Core.Path.{_≡_};
 ghost use lib.ListN.{length};
 use libc::STDOUT_FILENO;
 
@@ -11,16 +12,16 @@ pub fn room(page: &mut [u8; 65536], at: usize) -> usize
     if at <= 49152 {
         return at;
     }
-    write_out(page, at);
-    0
+    write_out(page, at)
 }
 
-// Writes out what stands before a place.
-pub fn write_out(page: &[u8; 65536], at: usize)
+// Writes out what stands before a place. The page is free again from its start, which is the answer.
+pub fn write_out(page: &[u8; 65536], at: usize) -> usize
     requires { ⌜ at ≤ 65536 ⌝ }
-    ensures { λ _. ⌜ at ≤ 65536 ⌝ }
+    ensures { λ r. ⌜ r ≡ 0 ⌝ }
 {
     write_front(page, at);
+    0
 }
 
 fn write_front(page: &[u8], at: usize)

@@ -2,6 +2,7 @@
 
 // ---- types
 pub use rules::Answer;
+pub use rules::Call;
 pub use rules::Cap;
 pub use rules::Clock;
 pub use rules::Completion;
@@ -9,11 +10,15 @@ pub use rules::Delay;
 pub use rules::Edge;
 pub use rules::EdgeLoad;
 pub use rules::EdgeRead;
+pub use rules::Estimate;
 pub use rules::Flows;
+pub use rules::Made;
 pub use rules::NextDone;
 pub use rules::Outcome;
 pub use rules::Owner;
 pub use rules::Route;
+pub use rules::Said;
+pub use rules::Submission;
 pub use rules::Tally;
 pub use rules::Tolerance;
 pub use rules::Totals;
@@ -51,3 +56,6 @@ pub use totals::peak_in_flight;
 pub use totals::rounds;
 pub use totals::submitted_counts;
 pub use totals::totals;
+
+// ---- any of them, as data
+pub use calls::make;

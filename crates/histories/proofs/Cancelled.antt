@@ -11,7 +11,8 @@ use Rattle.rules.specs.declared.Transfer.{Transfer}
 use Rattle.rules.specs.declared.Flows.{Flows}
 use Rattle.rules.specs.Lists.{count, those, any}
 use Rattle.rules.specs.Records.{owner-kind, has-id, of-id, contains, with-in-flight, with-clock, made-stale}
-use Rattle.rules.specs.Calls.{drained-to-clock, count-cancelled, owner-of, cancelled}
+use Rattle.rules.specs.Clock.{drained-to-clock}
+use Rattle.rules.specs.Cancel.{count-cancelled, owner-of, cancelled}
 use Rattle.rules.specs.Invariant.{Invariant}
 use Rattle.rules.specs.Tallies.{Entry, Ledger, number-of, kind-of, has-entry, without, kinds-of, note-cancelled}
 use Rattle.rules.proofs.Counting.{count-map, count-same, count-those, count-append, count-split}

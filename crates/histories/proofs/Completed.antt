@@ -15,7 +15,7 @@ use Rattle.rules.specs.Lists.{count, those, any}
 use Rattle.rules.specs.Records.{free, owner-kind, has-id, tally-of, with-in-flight, with-waiting, with-clock, made-stale}
 use Rattle.rules.specs.Done.{done-eps, is-done}
 use Rattle.rules.specs.Queue.{queued}
-use Rattle.rules.specs.Calls.{done-now, by-id, done-list, count-completed, completed-one, completed}
+use Rattle.rules.specs.Advance.{done-now, by-id, done-list, count-completed, completed-one, completed}
 use Rattle.rules.specs.Tallies.{Entry, Ledger, number-of, kind-of, has-entry}
 use Rattle.rules.proofs.Counting.{count-map, count-same, count-those, count-same-at, count-split, count-some, any-some, any-none}
 use Rattle.rules.proofs.Crossings.{eqb-swap}

@@ -9,7 +9,7 @@ use Rattle.rules.specs.declared.Owner.the-variants.{Worker, Handoff, Write}
 use Rattle.rules.specs.declared.Tally.{Tally}
 use Rattle.rules.specs.declared.Flows.{Flows}
 use Rattle.rules.specs.Records.{owner-kind, tally-of, with-totals, on-tally}
-use Rattle.rules.specs.Calls.{peak-taken}
+use Rattle.rules.specs.Submission.{peak-taken}
 use Rattle.rules.specs.Tallies.{kind-of}
 use Rattle.keeps.proofs.Tally.{on-tally-is, each-tally}
 

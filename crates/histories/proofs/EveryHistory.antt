@@ -11,12 +11,12 @@ use Rattle.rules.specs.declared.Tally.{Tally}
 use Rattle.rules.specs.declared.Flows.{Flows}
 use Rattle.rules.specs.Lists.{count, all}
 use Rattle.rules.specs.Records.{fresh, no-tally, owner-kind, tally-of}
-use Rattle.rules.specs.Histories.{Call, typed, call, run}
+use Rattle.rules.specs.Histories.{Turn, typed, after, run}
 use Rattle.rules.specs.Invariant.{Invariant, of-kind}
 use Rattle.rules.specs.Tallies.{Ledger, nothing-noted, noted, notes, ledger, kind-of, open-of}
 use Rattle.rules.specs.Promises.{AlwaysTallied}
 use Rattle.rules.proofs.Fresh.{fresh-keeps}
-use Rattle.keeps.proofs.Always.{call-keeps, always-sound}
+use Rattle.keeps.proofs.Always.{turn-keeps, always-sound}
 use Rattle.histories.proofs.Agreement.{Agrees}
 use Rattle.histories.proofs.Noted.{noted-agrees}
 
@@ -39,16 +39,17 @@ fresh-agrees = record {
 
 -- ---- after every history
 
-notes-agree : (calls : List Call) → T (all typed calls) → (f : Flows) (l : Ledger) → Invariant f → Agrees f l → Agrees (run f calls) (notes f calls l)
+notes-agree : (turns : List Turn) → T (all typed turns) → (f : Flows) (l : Ledger) → Invariant f → Agrees f l → Agrees (run f turns) (notes f turns l)
 unfolding all run notes
 notes-agree [] h f l inv a = a
-notes-agree (c ∷ calls) h f l inv a =
-    let t = and-l (typed c) (all typed calls) h in
-    notes-agree calls (and-r (typed c) (all typed calls) h) (call c f .flows) (noted c (call c f .said) l) (call-keeps c f t inv) (noted-agrees c f l t inv a)
+notes-agree (t ∷ turns) h f l inv a =
+    let fit = and-l (typed t) (all typed turns) h in
+    let left = after t f in
+    notes-agree turns (and-r (typed t) (all typed turns) h) (left .made .flows) (noted (t .call) (left .made .said) (left .buffer) l) (turn-keeps t f fit inv) (noted-agrees t f l fit inv a)
 
 -- whatever is asked of the entries in flight, the slots answer alike
-pub always-agrees : (calls : List Call) → T (all typed calls) → Agrees (run fresh calls) (ledger calls)
-always-agrees calls h = notes-agree calls h fresh nothing-noted fresh-keeps fresh-agrees
+pub always-agrees : (turns : List Turn) → T (all typed turns) → Agrees (run fresh turns) (ledger turns)
+always-agrees turns h = notes-agree turns h fresh nothing-noted fresh-keeps fresh-agrees
 
 agrees-by-kind : {f : Flows} {l : Ledger} → Agrees f l → (owner : Owner) → count (of-kind (owner-kind owner)) (f .«in_flight») ≡ open-of owner (l .in-flight)
 unfolding of-kind
@@ -56,9 +57,9 @@ agrees-by-kind {f} a owner = sym (a .in-flight (λ e. kind-of owner (e .kind)))
 
 -- for each kind of owner, the notes balance and the counters say what they say
 pub always-tallied : AlwaysTallied
-always-tallied calls h owner =
-    let a = always-agrees calls h in
-    let balanced = always-sound calls h .balanced owner .accounted in
+always-tallied turns h owner =
+    let a = always-agrees turns h in
+    let balanced = always-sound turns h .balanced owner .accounted in
     let by-kind = agrees-by-kind a owner in
     record {
       balance = omega (arith, balanced, by-kind, a .submitted owner, a .completed owner, a .cancelled owner);

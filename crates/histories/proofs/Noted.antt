@@ -12,15 +12,20 @@ use Rattle.rules.specs.declared.Cap.{Cap}
 use Rattle.rules.specs.declared.Answer.the-variants.{Done, Listed, Unknown}
 use Rattle.rules.specs.declared.Outcome.{Outcome}
 use Rattle.rules.specs.declared.Flows.{Flows}
+use Rattle.rules.specs.declared.Call.{Call}
+use Rattle.rules.specs.declared.Call.the-variants as Call-variants
 use Rattle.rules.specs.Records.{owner-kind, contains, with-edges, with-waiting, with-clock, made-stale}
-use Rattle.rules.specs.Clock.{ensure-rates, pass-time}
+use Rattle.rules.specs.Clock.{ensure-rates, pass-time, drained-to-clock}
 use Rattle.rules.specs.Refusals.{answering, refused, Lent, lent, refused-lent, not-finite, not-a-cap, not-a-time, read-cap}
 use Rattle.rules.specs.Queue.{ids-for, collected, taking, take-completed, owners-with-completions}
-use Rattle.rules.specs.Calls.{drained-to-clock, edge-added, edge-widened, add-edge, widen, submit-capped, quiet, done-list, listing, advance, cancelled, cancel}
+use Rattle.rules.specs.Edges.{edge-added, edge-widened, add-edge, widen}
+use Rattle.rules.specs.Submission.{submit-capped}
+use Rattle.rules.specs.Advance.{quiet, done-list, list-done, advance}
+use Rattle.rules.specs.Cancel.{cancelled, cancel}
 use Rattle.rules.specs.Questions.{next-completion-delay, estimate-remaining, rate}
-use Rattle.rules.specs.Histories as History
+use Rattle.rules.specs.Histories.{typed-cap, typed-call, call, Turn, typed, after}
 use Rattle.rules.specs.Invariant.{Invariant}
-use Rattle.rules.specs.Tallies.{Ledger, note-submitted, note-cancelled, entries, is-yes, list-length, says-done, said-entries, noted}
+use Rattle.rules.specs.Tallies.{Ledger, note-submitted, note-cancelled, entries, is-yes, list-length, says-done, says-listed, noted}
 use Rattle.keeps.proofs.Refusing.{refused-or, neither}
 use Rattle.keeps.proofs.Arguments.{time-clock, time-no-earlier}
 use Rattle.keeps.proofs.Passing.{pass-time-is}
@@ -95,9 +100,9 @@ module _ {f : Flows} {l : Ledger} (inv : Invariant f) (agrees : Agrees f l) wher
   unfolding Heard list-length entries
   still-agrees until buffer = rw (pass-time-is until f) (agrees-unheard (unheard-of refl refl) agrees)
 
-  listing-agrees : {d : Flows} (buffer : List ℕ) → Invariant d → Unheard f d → Heard (listing d (done-list d) f buffer)
-  unfolding Heard listing list-length
-  listing-agrees {d} buffer sound u =
+  list-done-agrees : {d : Flows} (buffer : List ℕ) → Invariant d → Unheard f d → Heard (list-done d (done-list d) f buffer)
+  unfolding Heard list-done list-length
+  list-done-agrees {d} buffer sound u =
       refused-or Heard _ (refused-lent f buffer) _ (not-listed buffer) (λ clear. rw (reads-back (done-list d) buffer) (completed-agrees d (one-holder sound) (agrees-unheard u agrees)))
 
   advance-agrees : (until : Float) (buffer : List ℕ) → T (fits binary64 until) → Heard (advance until f buffer)
@@ -107,7 +112,7 @@ module _ {f : Flows} {l : Ledger} (inv : Invariant f) (agrees : Agrees f l) wher
       let time = time-clock until typed (clear .0) in
       let later = time-no-earlier until typed (clear .0) (inv .clock .plain) (clear .1 .0) in
       let fresh = ensure-rates-refreshes (drain-to-keeps inv time later) in
-      go (quiet (read-zero until) f) _ (listing-agrees buffer (fresh .sound) (unheard-then (unheard-reached (drain-to-reaches inv time later)) (unheard-refreshed fresh))))
+      go (quiet (read-zero until) f) _ (list-done-agrees buffer (fresh .sound) (unheard-then (unheard-reached (drain-to-reaches inv time later)) (unheard-refreshed fresh))))
     where
       go : (b : Bool) (full : Lent) → Heard full → Heard (cond b (lent (answering (Listed 0) (pass-time (read-zero until) f)) buffer) full)
       go true full heard = still-agrees (read-zero until) buffer
@@ -115,20 +120,25 @@ module _ {f : Flows} {l : Ledger} (inv : Invariant f) (agrees : Agrees f l) wher
 
 -- ---- any call
 
-pub noted-agrees : (c : History.Call) (f : Flows) (l : Ledger) → T (History.typed c) → Invariant f → Agrees f l → Agrees (History.call c f .flows) (noted c (History.call c f .said) l)
-unfolding History.call History.typed noted says-done said-entries next-completion-delay estimate-remaining rate take-completed Heard
-noted-agrees (History.advance size until) f l t inv a = advance-agrees inv a until (History.lent-buffer size) t
-noted-agrees (History.submit id owner path bytes latency cap until) f l t inv a = submit-agrees inv a id owner path bytes latency cap until (and-r (History.typed-cap cap) (fits binary64 until) (and-r (fits binary64 latency) (History.typed-cap cap && fits binary64 until) t))
-noted-agrees (History.cancel id) f l t inv a = cancel-agrees inv a id
-noted-agrees (History.add-edge capacity) f l t inv a = agrees-unheard (add-edge-unheard inv capacity) a
-noted-agrees (History.widen e amount) f l t inv a = agrees-unheard (widen-unheard inv e amount) a
-noted-agrees (History.take-completed size owner) f l t inv a = agrees-unheard (taking-unheard (ids-for owner f) owner f (History.lent-buffer size)) a
-noted-agrees (History.owners-with-completions size) f l t inv a = agrees-unheard (owners-unheard f (History.lent-buffer size)) a
-noted-agrees History.next-completion-delay f l t inv a = agrees-unheard (up-to-date inv) a
-noted-agrees (History.estimate-new path bytes latency cap) f l t inv a = a
-noted-agrees (History.estimate-remaining id) f l t inv a = agrees-unheard (remaining-unheard inv) a
-noted-agrees (History.mean-in-flight e until) f l t inv a = a
-noted-agrees (History.rate id) f l t inv a = agrees-unheard (up-to-date inv) a
-noted-agrees (History.edge e) f l t inv a = a
-noted-agrees (History.contains id) f l t inv a = a
-noted-agrees History.rounds f l t inv a = a
+call-agrees : (c : Call) (path : List ℕ) (f : Flows) (buffer : List ℕ) (l : Ledger) → T (typed-call c) → Invariant f → Agrees f l
+    → let left = call c path f buffer in Agrees (left .made .flows) (noted c (left .made .said) (left .buffer) l)
+unfolding call typed-call noted says-done says-listed next-completion-delay estimate-remaining rate take-completed Heard
+call-agrees (Call-variants.Advance time) path f buffer l t inv a = advance-agrees inv a time buffer t
+call-agrees (Call-variants.Submit s) path f buffer l t inv a =
+    submit-agrees inv a (s .id) (s .owner) path (s .bytes) (s .latency) (s .cap) (s .time) (and-r (typed-cap (s .cap)) (fits binary64 (s .time)) (and-r (fits binary64 (s .latency)) (typed-cap (s .cap) && fits binary64 (s .time)) t))
+call-agrees (Call-variants.Cancel id) path f buffer l t inv a = cancel-agrees inv a id
+call-agrees (Call-variants.AddEdge capacity) path f buffer l t inv a = agrees-unheard (add-edge-unheard inv capacity) a
+call-agrees (Call-variants.Widen e amount) path f buffer l t inv a = agrees-unheard (widen-unheard inv e amount) a
+call-agrees (Call-variants.TakeCompleted owner) path f buffer l t inv a = agrees-unheard (taking-unheard (ids-for owner f) owner f buffer) a
+call-agrees Call-variants.OwnersWithCompletions path f buffer l t inv a = agrees-unheard (owners-unheard f buffer) a
+call-agrees Call-variants.NextCompletionDelay path f buffer l t inv a = agrees-unheard (up-to-date inv) a
+call-agrees (Call-variants.EstimateNew e) path f buffer l t inv a = a
+call-agrees (Call-variants.EstimateRemaining id) path f buffer l t inv a = agrees-unheard (remaining-unheard inv) a
+call-agrees (Call-variants.MeanInFlight e until) path f buffer l t inv a = a
+call-agrees (Call-variants.Rate id) path f buffer l t inv a = agrees-unheard (up-to-date inv) a
+call-agrees (Call-variants.Edge e) path f buffer l t inv a = a
+call-agrees (Call-variants.Contains id) path f buffer l t inv a = a
+call-agrees Call-variants.Rounds path f buffer l t inv a = a
+
+pub noted-agrees : (t : Turn) (f : Flows) (l : Ledger) → T (typed t) → Invariant f → Agrees f l → let left = after t f in Agrees (left .made .flows) (noted (t .call) (left .made .said) (left .buffer) l)
+noted-agrees t f l h inv a = call-agrees (t .call) (t .path) f (t .buffer) l h inv a

@@ -11,7 +11,7 @@ use Rattle.rules.specs.declared.Transfer.{Transfer}
 use Rattle.rules.specs.declared.Flows.{Flows}
 use Rattle.rules.specs.Lists.{count}
 use Rattle.rules.specs.Records.{free, has-id}
-use Rattle.rules.specs.Calls.{placed}
+use Rattle.rules.specs.Submission.{placed}
 use Rattle.rules.specs.Invariant.{Invariant}
 use Rattle.rules.specs.Tallies.{Entry}
 use Rattle.rules.proofs.Counting.{count-set, count-cleared, count-split, count-one-place}

@@ -15,7 +15,7 @@ use Rattle.rules.specs.Lists.{count}
 use Rattle.rules.specs.Records.{owner-kind, num-in-flight, with-in-flight, with-totals, with-clock, made-stale, on-tally}
 use Rattle.rules.specs.Clock.{drain-to}
 use Rattle.rules.specs.Refusals.{is-full}
-use Rattle.rules.specs.Calls.{submitted-transfer, placed, count-submitted, peak-taken, submitted}
+use Rattle.rules.specs.Submission.{submitted-transfer, placed, count-submitted, peak-taken, submitted}
 use Rattle.rules.specs.Invariant.{Invariant}
 use Rattle.rules.specs.Tallies.{Ledger, kind-of, note-submitted}
 use Rattle.keeps.proofs.Crowd.{Who, same-count, same-length}

@@ -229,7 +229,7 @@ fn number(answer: Answer) -> u64 {
         Answer::Listed(n) => n as u64,
         Answer::Refused(n) => n as u64,
         Answer::Value(x) => doubles::bits_of(x),
-        Answer::Wait(d) => delay(d),
+        Answer::Due(d) => delay(d),
         _ => 0,
     }
 }

@@ -1,42 +1,48 @@
 -- After any history of calls the invariant holds, since the fresh simulator keeps it and every call does. Assumes nothing.
+use Prim.Native.Nat.{ℕ}
 use mathlib.Core.Bool.{_&&_}
 use mathlib.Core.List.{List, [], _∷_}
 use lib.Dec.{T}
 use lib.Ieee.{binary64, fits}
 use lib.Ieee.Fits.{and-l, and-r}
 use Rattle.rules.specs.declared.Flows.{Flows}
+use Rattle.rules.specs.declared.Call.{Call}
+use Rattle.rules.specs.declared.Call.the-variants.{Advance, Submit, Cancel, AddEdge, Widen, TakeCompleted, OwnersWithCompletions, NextCompletionDelay, EstimateNew, EstimateRemaining, MeanInFlight, Rate, Edge, Contains, Rounds}
 use Rattle.rules.specs.Lists.{all}
 use Rattle.rules.specs.Records.{fresh}
-use Rattle.rules.specs.Histories.{Call, advance, submit, cancel, add-edge, widen, take-completed, owners-with-completions, next-completion-delay, estimate-new, estimate-remaining, mean-in-flight, rate, edge, contains, rounds, typed-cap, typed, lent-buffer, call, run}
+use Rattle.rules.specs.Histories.{typed-cap, typed-call, call, Turn, typed, after, run}
 use Rattle.rules.specs.Promises.{AlwaysSound}
 use Rattle.rules.specs.Invariant.{Invariant}
 use Rattle.rules.proofs.Fresh.{fresh-keeps}
 use Rattle.keeps.proofs.Calls as Keeps
 
-pub call-keeps : (c : Call) (f : Flows) → T (typed c) → Invariant f → Invariant (call c f .flows)
-unfolding call typed
-call-keeps (advance size until) f t inv = Keeps.advance-keeps until f (lent-buffer size) t inv
-call-keeps (submit id owner path bytes latency cap until) f t inv =
-    let rest = and-r (fits binary64 latency) (typed-cap cap && fits binary64 until) t in
-    Keeps.submit-capped-keeps id owner path bytes latency cap until f (and-l (fits binary64 latency) (typed-cap cap && fits binary64 until) t) (and-l (typed-cap cap) (fits binary64 until) rest) (and-r (typed-cap cap) (fits binary64 until) rest) inv
-call-keeps (cancel id) f t inv = Keeps.cancel-keeps id f inv
-call-keeps (add-edge capacity) f t inv = Keeps.add-edge-keeps capacity f t inv
-call-keeps (widen e amount) f t inv = Keeps.widen-keeps e amount f t inv
-call-keeps (take-completed size owner) f t inv = Keeps.take-completed-keeps owner f (lent-buffer size) inv
-call-keeps (owners-with-completions size) f t inv = Keeps.owners-with-completions-keeps f (lent-buffer size) inv
-call-keeps next-completion-delay f t inv = Keeps.next-completion-delay-keeps f inv
-call-keeps (estimate-new path bytes latency cap) f t inv = inv
-call-keeps (estimate-remaining id) f t inv = Keeps.estimate-remaining-keeps id f inv
-call-keeps (mean-in-flight e until) f t inv = inv
-call-keeps (rate id) f t inv = Keeps.rate-keeps id f inv
-call-keeps (edge e) f t inv = inv
-call-keeps (contains id) f t inv = inv
-call-keeps rounds f t inv = inv
+pub call-keeps : (c : Call) (path : List ℕ) (f : Flows) (buffer : List ℕ) → T (typed-call c) → Invariant f → Invariant (call c path f buffer .made .flows)
+unfolding call typed-call
+call-keeps (Advance time) path f buffer t inv = Keeps.advance-keeps time f buffer t inv
+call-keeps (Submit s) path f buffer t inv =
+    let rest = and-r (fits binary64 (s .latency)) (typed-cap (s .cap) && fits binary64 (s .time)) t in
+    Keeps.submit-capped-keeps (s .id) (s .owner) path (s .bytes) (s .latency) (s .cap) (s .time) f (and-l (fits binary64 (s .latency)) (typed-cap (s .cap) && fits binary64 (s .time)) t) (and-l (typed-cap (s .cap)) (fits binary64 (s .time)) rest) (and-r (typed-cap (s .cap)) (fits binary64 (s .time)) rest) inv
+call-keeps (Cancel id) path f buffer t inv = Keeps.cancel-keeps id f inv
+call-keeps (AddEdge capacity) path f buffer t inv = Keeps.add-edge-keeps capacity f t inv
+call-keeps (Widen e amount) path f buffer t inv = Keeps.widen-keeps e amount f t inv
+call-keeps (TakeCompleted owner) path f buffer t inv = Keeps.take-completed-keeps owner f buffer inv
+call-keeps OwnersWithCompletions path f buffer t inv = Keeps.owners-with-completions-keeps f buffer inv
+call-keeps NextCompletionDelay path f buffer t inv = Keeps.next-completion-delay-keeps f inv
+call-keeps (EstimateNew e) path f buffer t inv = inv
+call-keeps (EstimateRemaining id) path f buffer t inv = Keeps.estimate-remaining-keeps id f inv
+call-keeps (MeanInFlight e until) path f buffer t inv = inv
+call-keeps (Rate id) path f buffer t inv = Keeps.rate-keeps id f inv
+call-keeps (Edge e) path f buffer t inv = inv
+call-keeps (Contains id) path f buffer t inv = inv
+call-keeps Rounds path f buffer t inv = inv
 
-pub run-keeps : (f : Flows) (calls : List Call) → T (all typed calls) → Invariant f → Invariant (run f calls)
+pub turn-keeps : (t : Turn) (f : Flows) → T (typed t) → Invariant f → Invariant (after t f .made .flows)
+turn-keeps t f h inv = call-keeps (t .call) (t .path) f (t .buffer) h inv
+
+pub run-keeps : (f : Flows) (turns : List Turn) → T (all typed turns) → Invariant f → Invariant (run f turns)
 unfolding run all
-run-keeps f [] t inv = inv
-run-keeps f (c ∷ calls) t inv = run-keeps (call c f .flows) calls (and-r (typed c) (all typed calls) t) (call-keeps c f (and-l (typed c) (all typed calls) t) inv)
+run-keeps f [] h inv = inv
+run-keeps f (t ∷ turns) h inv = run-keeps (after t f .made .flows) turns (and-r (typed t) (all typed turns) h) (turn-keeps t f (and-l (typed t) (all typed turns) h) inv)
 
 pub always-sound : AlwaysSound
-always-sound calls t = run-keeps fresh calls t fresh-keeps
+always-sound turns t = run-keeps fresh turns t fresh-keeps

@@ -17,10 +17,14 @@ use Rattle.rules.specs.declared.Completion.{Completion}
 use Rattle.rules.specs.declared.Edge.{Edge}
 use Rattle.rules.specs.declared.Answer.the-variants.{Done, Unknown}
 use Rattle.rules.specs.declared.Flows.{Flows}
-use Rattle.rules.specs.Records.{max-edges, max-path, max-slots, no-edge, contains, num-in-flight, tally-of}
+use Rattle.rules.specs.Records.{max-edges, max-path, max-slots, blank-edge, contains, num-in-flight, tally-of}
 use Rattle.rules.specs.Clock.{ensure-rates, drain-to}
 use Rattle.rules.specs.Refusals.{answering, refused, Lent, refused-lent, not-finite, not-an-amount, not-a-time, not-a-cap, no-such-edge, too-long, is-full, read-cap}
-use Rattle.rules.specs.Calls
+use Rattle.rules.specs.Clock
+use Rattle.rules.specs.Edges
+use Rattle.rules.specs.Submission
+use Rattle.rules.specs.Advance
+use Rattle.rules.specs.Cancel
 use Rattle.rules.specs.Queue.{taking, take-completed, ids-for, owners-with-completions}
 use Rattle.rules.specs.Questions.{next-completion-delay, estimate-remaining, rate}
 use Rattle.rules.specs.Histories.{typed-cap}
@@ -41,29 +45,29 @@ use Rattle.keeps.proofs.Waiting.{collected-keeps}
 
 -- ---- edges
 
-pub edge-added-keeps : (capacity : Float) (f : Flows) → Plain capacity → f .«num_edges» < max-edges → Invariant f → Invariant (Calls.edge-added capacity f)
-unfolding Calls.edge-added
+pub edge-added-keeps : (capacity : Float) (f : Flows) → Plain capacity → f .«num_edges» < max-edges → Invariant f → Invariant (Edges.edge-added capacity f)
+unfolding Edges.edge-added
 edge-added-keeps capacity f plain room inv =
     let r = drained-to-clock-reaches inv in
-    let d = Calls.drained-to-clock f in
+    let d = Clock.drained-to-clock f in
     let edge : Edge = record { capacity = capacity; «bytes_moved» = nought; «busy_transfer_seconds» = nought } in
     made-stale-keeps (other-edges (r .drained) (set (d .edges) (d .«num_edges») edge) (suc (d .«num_edges»)) (omega arith)
     (edge-set (r .drained .edges) (d .«num_edges») (suc (d .«num_edges»)) edge (omega arith) (omega arith) (omega (arith, r .edges, room)) (record { capacity = plain; moved = nought-summed; busy = nought-summed })))
 
-pub add-edge-keeps : (capacity : Float) (f : Flows) → T (fits binary64 capacity) → Invariant f → Invariant (Calls.add-edge capacity f .flows)
-unfolding Calls.add-edge
+pub add-edge-keeps : (capacity : Float) (f : Flows) → T (fits binary64 capacity) → Invariant f → Invariant (Edges.add-edge capacity f .flows)
+unfolding Edges.add-edge
 add-edge-keeps capacity f typed inv = refused-or (λ o. Invariant (o .flows)) _ (refused f) _ (λ n. inv) (λ none.
     edge-added-keeps (read-zero capacity) f (amount-plain capacity typed (none .0)) (leb-false max-edges (f .«num_edges») (none .1 .0)) inv)
 
-pub edge-widened-keeps : (e : ℕ) (amount : Float) (f : Flows) → e < f .«num_edges» → Plain (Calls.wider amount (getD (f .edges) e no-edge)) → Invariant f → Invariant (Calls.edge-widened e amount f)
-unfolding Calls.edge-widened Calls.wider
+pub edge-widened-keeps : (e : ℕ) (amount : Float) (f : Flows) → e < f .«num_edges» → Plain (Edges.wider amount (getD (f .edges) e blank-edge)) → Invariant f → Invariant (Edges.edge-widened e amount f)
+unfolding Edges.edge-widened Edges.wider
 edge-widened-keeps e amount f known plain inv =
     let r = drained-to-clock-reaches inv in
-    let d = Calls.drained-to-clock f in
+    let d = Clock.drained-to-clock f in
     let there : e < d .«num_edges» = omega (arith, r .edges) in
-    let s : SoundEdge (getD (d .edges) e no-edge) = r .drained .edges .sound e in
-    let same : getD (d .edges) e no-edge .capacity ≡ getD (f .edges) e no-edge .capacity =
-    sym (List·getD-map (λ (x : Edge). x .capacity) (d .edges) e no-edge) ∙ ap (λ (l : List Float). getD l e nought) (r .capacities) ∙ List·getD-map (λ (x : Edge). x .capacity) (f .edges) e no-edge in
+    let s : SoundEdge (getD (d .edges) e blank-edge) = r .drained .edges .sound e in
+    let same : getD (d .edges) e blank-edge .capacity ≡ getD (f .edges) e blank-edge .capacity =
+    sym (List·getD-map (λ (x : Edge). x .capacity) (d .edges) e blank-edge) ∙ ap (λ (l : List Float). getD l e nought) (r .capacities) ∙ List·getD-map (λ (x : Edge). x .capacity) (f .edges) e blank-edge in
     made-stale-keeps (other-edges (r .drained) _ (d .«num_edges») (omega arith)
     (edge-update (r .drained .edges) e _ there (record { capacity = subst Plain (ap (λ (c : Float). c ⊕ amount) (sym same)) plain; moved = s .moved; busy = s .busy })))
 
@@ -72,18 +76,18 @@ there-tested : (a b : Bool) → a ≡ false → (not a && b) ≡ false → b ≡
 there-tested false b e h = h
 there-tested true b e h = absurd (true≢false e)
 
-pub widen-keeps : (e : ℕ) (amount : Float) (f : Flows) → T (fits binary64 amount) → Invariant f → Invariant (Calls.widen e amount f .flows)
-unfolding Calls.widen Calls.no-widening Calls.wider no-such-edge
+pub widen-keeps : (e : ℕ) (amount : Float) (f : Flows) → T (fits binary64 amount) → Invariant f → Invariant (Edges.widen e amount f .flows)
+unfolding Edges.widen Edges.no-widening Edges.wider no-such-edge
 widen-keeps e amount f typed inv = refused-or (λ o. Invariant (o .flows)) _ (refused f) _ (λ n. inv) (λ none.
-    let tests = neither (not-finite amount) (not (leb (f .«num_edges») e) && not-an-amount (getD (f .edges) e no-edge .capacity ⊕ amount)) (none .0) in
+    let tests = neither (not-finite amount) (not (leb (f .«num_edges») e) && not-an-amount (getD (f .edges) e blank-edge .capacity ⊕ amount)) (none .0) in
     edge-widened-keeps e (read-zero amount) f (leb-false (f .«num_edges») e (none .1 .0))
-    (widened-plain (inv .edges e .capacity) amount typed (tests .0) (there-tested (leb (f .«num_edges») e) (not-an-amount (getD (f .edges) e no-edge .capacity ⊕ amount)) (none .1 .0) (tests .1))) inv)
+    (widened-plain (inv .edges e .capacity) amount typed (tests .0) (there-tested (leb (f .«num_edges») e) (not-an-amount (getD (f .edges) e blank-edge .capacity ⊕ amount)) (none .1 .0) (tests .1))) inv)
 
 -- ---- submission
 
 pub submit-capped-keeps : (id : ℕ) (owner : Owner) (path : List ℕ) (bytes : ℕ) (latency : Float) (cap : Cap) (until : Float) (f : Flows)
-    → T (fits binary64 latency) → T (typed-cap cap) → T (fits binary64 until) → Invariant f → Invariant (Calls.submit-capped id owner path bytes latency cap until f .flows)
-unfolding Calls.submit-capped no-such-edge too-long is-full
+    → T (fits binary64 latency) → T (typed-cap cap) → T (fits binary64 until) → Invariant f → Invariant (Submission.submit-capped id owner path bytes latency cap until f .flows)
+unfolding Submission.submit-capped no-such-edge too-long is-full
 submit-capped-keeps id owner path bytes latency cap until f typed typed-c typed-t inv = refused-or (λ o. Invariant (o .flows)) _ (refused f) _ (λ n. inv) (λ none.
     let tests = neither (not-finite latency || not-a-cap cap) (not-a-time until) (none .0) in
     let amounts = neither (not-finite latency) (not-a-cap cap) (tests .0) in
@@ -102,38 +106,38 @@ submit-capped-keeps id owner path bytes latency cap until f typed typed-c typed-
 
 -- ---- advance
 
-listing-keeps : (d : Flows) (list : List Completion) (f : Flows) (buffer : List ℕ) → Invariant f → Invariant (Calls.completed d list) → Invariant (Calls.listing d list f buffer .outcome .flows)
-unfolding Calls.listing
+listing-keeps : (d : Flows) (list : List Completion) (f : Flows) (buffer : List ℕ) → Invariant f → Invariant (Advance.completed d list) → Invariant (Advance.list-done d list f buffer .outcome .flows)
+unfolding Advance.list-done
 listing-keeps d list f buffer inv after = refused-or (λ (l : Lent). Invariant (l .outcome .flows)) _ (refused-lent f buffer) _ (λ n. inv) (λ none. after)
 
 -- drained and with rates up to date, so that who is done may leave
 pub completions-keep : {until : Float} {f : Flows} → Invariant f → ClockTime until → T (f .clock .now ≼ until)
-    → let d = ensure-rates (drain-to until f) in Invariant (Calls.completed d (Calls.done-list d))
+    → let d = ensure-rates (drain-to until f) in Invariant (Advance.completed d (Advance.done-list d))
 completions-keep {until} {f} inv time later =
     let r = ensure-rates-refreshes (drain-to-keeps inv time later) in
     let all = drained-all inv time later in
     completed-keeps (ensure-rates (drain-to until f)) (r .sound) (λ i e. refreshed-at until r (all .0) i e ∙ sym (r .now ∙ all .1))
 
-quiet-fresh : (until : Float) (f : Flows) → T (Calls.quiet until f) → f .clock .«rates_dirty» ≡ false
-unfolding Calls.quiet
-quiet-fresh until f still = is-false (f .clock .«rates_dirty») (and-l (not (f .clock .«rates_dirty»)) (Calls.later-than until (f .clock .«next_done_at»)) still)
+quiet-fresh : (until : Float) (f : Flows) → T (Advance.quiet until f) → f .clock .«rates_dirty» ≡ false
+unfolding Advance.quiet
+quiet-fresh until f still = is-false (f .clock .«rates_dirty») (and-l (not (f .clock .«rates_dirty»)) (Advance.later-than until (f .clock .«next_done_at»)) still)
 
-pub advance-keeps : (until : Float) (f : Flows) (buffer : List ℕ) → T (fits binary64 until) → Invariant f → Invariant (Calls.advance until f buffer .outcome .flows)
-unfolding Calls.advance
+pub advance-keeps : (until : Float) (f : Flows) (buffer : List ℕ) → T (fits binary64 until) → Invariant f → Invariant (Advance.advance until f buffer .outcome .flows)
+unfolding Advance.advance
 advance-keeps until f buffer typed inv = refused-or (λ (l : Lent). Invariant (l .outcome .flows)) _ (refused-lent f buffer) _ (λ n. inv) (λ none.
     let time = time-clock until typed (none .0) in
     let later = time-no-earlier until typed (none .0) (inv .clock .plain) (none .1 .0) in
     let d = ensure-rates (drain-to (read-zero until) f) in
-    by-test (λ (l : Lent). Invariant (l .outcome .flows)) (Calls.quiet (read-zero until) f) (λ still. pass-time-keeps inv time later (quiet-fresh (read-zero until) f still))
-    (listing-keeps d (Calls.done-list d) f buffer inv (completions-keep inv time later)))
+    by-test (λ (l : Lent). Invariant (l .outcome .flows)) (Advance.quiet (read-zero until) f) (λ still. pass-time-keeps inv time later (quiet-fresh (read-zero until) f still))
+    (listing-keeps d (Advance.done-list d) f buffer inv (completions-keep inv time later)))
 
 -- ---- cancel and collect
 
-pub cancel-keeps : (id : ℕ) (f : Flows) → Invariant f → Invariant (Calls.cancel id f .flows)
-unfolding Calls.cancel
+pub cancel-keeps : (id : ℕ) (f : Flows) → Invariant f → Invariant (Cancel.cancel id f .flows)
+unfolding Cancel.cancel
 cancel-keeps id f inv = go (contains id f) refl
   where
-    go : (b : Bool) → contains id f ≡ b → Invariant (cond b (answering Done (Calls.cancelled id f)) (answering Unknown f) .flows)
+    go : (b : Bool) → contains id f ≡ b → Invariant (cond b (answering Done (Cancel.cancelled id f)) (answering Unknown f) .flows)
     go true e = cancelled-keeps id f e (drained-to-clock-reaches inv)
     go false e = inv
 

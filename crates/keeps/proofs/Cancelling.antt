@@ -13,7 +13,8 @@ use Rattle.rules.specs.declared.Totals.{Totals}
 use Rattle.rules.specs.declared.Flows.{Flows}
 use Rattle.rules.specs.Lists.{count, any}
 use Rattle.rules.specs.Records.{free, has-id, of-id, contains, owner-kind, tally-of, with-in-flight, with-totals}
-use Rattle.rules.specs.Calls.{drained-to-clock, count-cancelled, owner-of, cancelled}
+use Rattle.rules.specs.Clock.{drained-to-clock}
+use Rattle.rules.specs.Cancel.{count-cancelled, owner-of, cancelled}
 use Rattle.rules.specs.Invariant.{SoundSlot, of-kind, Invariant}
 use Rattle.keeps.proofs.Parts.{CrowdSound}
 use Rattle.keeps.proofs.Crowd.{Who, same-at}

@@ -13,7 +13,7 @@ use Rattle.rules.specs.Lists.{count, those}
 use Rattle.rules.specs.Records.{max-slots, free, waiting, owner-kind, with-in-flight, with-waiting, with-totals}
 use Rattle.rules.specs.Done.{done-eps, is-done}
 use Rattle.rules.specs.Queue.{inserted, queued}
-use Rattle.rules.specs.Calls.{done-now, by-id, done-list, count-completed, completed-one, completed}
+use Rattle.rules.specs.Advance.{done-now, by-id, done-list, count-completed, completed-one, completed}
 use Rattle.rules.specs.Invariant.{SoundSlot, of-kind, Invariant}
 use Rattle.rules.proofs.Counting.{count-map, one-if, count-same, count-those, count-cleared, count-everyone}
 use Rattle.keeps.proofs.Parts.{parts}

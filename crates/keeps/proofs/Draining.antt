@@ -13,8 +13,7 @@ use Rattle.rules.specs.declared.Transfer.{Transfer}
 use Rattle.rules.specs.declared.Flows.{Flows}
 use Rattle.rules.specs.Lists.{Each, update, at-each-crossing}
 use Rattle.rules.specs.Records.{free, own-path, with-edges, with-in-flight}
-use Rattle.rules.specs.Clock.{ensure-rates, moves, bytes-flowing, drained, gain-moved, deliver, pass-time, drain-slots, drain-to}
-use Rattle.rules.specs.Calls.{drained-to-clock}
+use Rattle.rules.specs.Clock.{ensure-rates, moves, bytes-flowing, drained, gain-moved, deliver, pass-time, drain-slots, drain-to, drained-to-clock}
 use Rattle.rules.specs.Invariant.{ClockTime, SoundSlot, Invariant}
 use Rattle.rules.proofs.Conds.{by-test}
 use Rattle.keeps.proofs.Stalls.{elapsed}

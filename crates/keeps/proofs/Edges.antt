@@ -10,7 +10,7 @@ use Rattle.rules.specs.declared.Edge.{Edge}
 use Rattle.rules.specs.declared.Completion.{Completion}
 use Rattle.rules.specs.declared.Flows.{Flows}
 use Rattle.rules.specs.Lists.{update}
-use Rattle.rules.specs.Records.{max-edges, no-edge, with-edges}
+use Rattle.rules.specs.Records.{max-edges, blank-edge, with-edges}
 use Rattle.rules.specs.Invariant.{SoundEdge}
 use Rattle.rules.proofs.Steps.{update-is}
 use Rattle.rules.proofs.Each.{each-set}
@@ -22,12 +22,12 @@ module _ {edges : List Edge} {n : ℕ} (sound : EdgesSound edges n) where
   edge-set k m e inside more few s = record {
     places = length-set edges k e ∙ sound .places;
     few = few;
-    sound = each-set SoundEdge no-edge edges k e (sound .sound) s;
-    blank = λ j h. getD-set-other edges k j e no-edge (omega arith) ∙ sound .blank j (omega arith);
+    sound = each-set SoundEdge blank-edge edges k e (sound .sound) s;
+    blank = λ j h. getD-set-other edges k j e blank-edge (omega arith) ∙ sound .blank j (omega arith);
   }
 
-  pub edge-update : (k : ℕ) (change : Edge → Edge) → k < n → SoundEdge (change (getD edges k no-edge)) → EdgesSound (update k change edges) n
-  edge-update k change inside s = rw (update-is k change edges no-edge) (edge-set k n (change (getD edges k no-edge)) inside (omega arith) (sound .few) s)
+  pub edge-update : (k : ℕ) (change : Edge → Edge) → k < n → SoundEdge (change (getD edges k blank-edge)) → EdgesSound (update k change edges) n
+  edge-update k change inside s = rw (update-is k change edges blank-edge) (edge-set k n (change (getD edges k blank-edge)) inside (omega arith) (sound .few) s)
 
 pub other-edges : {owed : List Completion} {f : Flows} → Drained owed f → (edges : List Edge) (n : ℕ) → f .«num_edges» ≤ n → EdgesSound edges n → Drained owed (with-edges edges n f)
 unfolding with-edges

@@ -16,7 +16,7 @@ use Rattle.rules.specs.declared.Edge.{Edge}
 use Rattle.rules.specs.declared.Transfer.{Transfer}
 use Rattle.rules.specs.declared.Flows.{Flows}
 use Rattle.rules.specs.Lists.{Each, count, sum, crossings, update, at-each-crossing, map-from}
-use Rattle.rules.specs.Records.{no-edge, free, own-path}
+use Rattle.rules.specs.Records.{blank-edge, free, own-path}
 use Rattle.rules.specs.Clock.{crossings-by, counts-in-loads, flowing-time, moves, bytes-flowing, gain-moved, deliver, gain-busy}
 use Rattle.rules.specs.Invariant.{ClockTime, SoundEdge, SoundSlot}
 use Rattle.paths.specs.Known.{Known}
@@ -57,17 +57,17 @@ module _ (until : Float) where
 
 -- slots of a sound simulator, drained to a time that its clock is not past
 module _ {f : Flows} {until : Float} (n : Plain (f .clock .now)) (p : Plain until) (h : T (f .clock .now ≼ until)) where
-  deliver-sound : (edges : List Edge) (t : Transfer) → SoundSlot f t → Each SoundEdge no-edge edges → Each SoundEdge no-edge (deliver own-path until edges t)
+  deliver-sound : (edges : List Edge) (t : Transfer) → SoundSlot f t → Each SoundEdge blank-edge edges → Each SoundEdge blank-edge (deliver own-path until edges t)
   unfolding deliver
-  deliver-sound edges t s a = by-test (Each SoundEdge no-edge) (moves until t) credit a
+  deliver-sound edges t s a = by-test (Each SoundEdge blank-edge) (moves until t) credit a
     where
-      credit : T (moves until t) → Each SoundEdge no-edge (at-each-crossing (own-path t) (gain-moved (bytes-flowing until t)) edges)
+      credit : T (moves until t) → Each SoundEdge blank-edge (at-each-crossing (own-path t) (gain-moved (bytes-flowing until t)) edges)
       credit m =
           let held = s .held (taken-moves until t m) in
           let late = late-enough held n p h in
-          each-crossing SoundEdge no-edge (gain-moved (bytes-flowing until t)) (λ e q. moved-summed q (flow-plain held p late m) (flow-bound held p late m)) (own-path t) edges a
+          each-crossing SoundEdge blank-edge (gain-moved (bytes-flowing until t)) (λ e q. moved-summed q (flow-plain held p late m) (flow-bound held p late m)) (own-path t) edges a
 
-  pub delivered-sound : (edges : List Edge) (slots : List Transfer) → Each (SoundSlot f) free slots → Each SoundEdge no-edge edges → Each SoundEdge no-edge (foldl (deliver own-path until) edges slots)
+  pub delivered-sound : (edges : List Edge) (slots : List Transfer) → Each (SoundSlot f) free slots → Each SoundEdge blank-edge edges → Each SoundEdge blank-edge (foldl (deliver own-path until) edges slots)
   delivered-sound edges [] each a = a
   delivered-sound edges (t ∷ slots) each a = delivered-sound (deliver own-path until edges t) slots (λ i. each (suc i)) (deliver-sound edges t (each 0) a)
 
@@ -102,13 +102,13 @@ module _ {f : Flows} (e : ℕ) (past : f .«num_edges» ≤ e) where
   unfolding own-path
   known-held t s taken = known-more past (known-route (s .held taken .path))
 
-  deliver-away : (until : Float) (edges : List Edge) (t : Transfer) → SoundSlot f t → getD (deliver own-path until edges t) e no-edge ≡ getD edges e no-edge
+  deliver-away : (until : Float) (edges : List Edge) (t : Transfer) → SoundSlot f t → getD (deliver own-path until edges t) e blank-edge ≡ getD edges e blank-edge
   unfolding deliver
   deliver-away until edges t s =
-      by-test (λ (r : List Edge). getD r e no-edge ≡ getD edges e no-edge) (moves until t)
-      (λ m. away-crossing (own-path t) e (gain-moved (bytes-flowing until t)) edges no-edge (known-held t s (taken-moves until t m))) refl
+      by-test (λ (r : List Edge). getD r e blank-edge ≡ getD edges e blank-edge) (moves until t)
+      (λ m. away-crossing (own-path t) e (gain-moved (bytes-flowing until t)) edges blank-edge (known-held t s (taken-moves until t m))) refl
 
-  pub delivered-away : (until : Float) (edges : List Edge) (slots : List Transfer) → Each (SoundSlot f) free slots → getD (foldl (deliver own-path until) edges slots) e no-edge ≡ getD edges e no-edge
+  pub delivered-away : (until : Float) (edges : List Edge) (slots : List Transfer) → Each (SoundSlot f) free slots → getD (foldl (deliver own-path until) edges slots) e blank-edge ≡ getD edges e blank-edge
   delivered-away until edges [] each = refl
   delivered-away until edges (t ∷ slots) each = delivered-away until (deliver own-path until edges t) slots (λ i. each (suc i)) ∙ deliver-away until edges t (each 0)
 
@@ -123,16 +123,16 @@ module _ {f : Flows} (e : ℕ) (past : f .«num_edges» ≤ e) where
 
 -- ---- load integrals
 module _ (dt : Float) (load : ℕ → ℕ) where
-  busy-from : (n : ℕ) (edges : List Edge) → ((e : ℕ) → load e ≤ 2048) → ClockTime dt → Each SoundEdge no-edge edges → Each SoundEdge no-edge (map-from n (λ e edge. gain-busy dt (load e) edge) edges)
+  busy-from : (n : ℕ) (edges : List Edge) → ((e : ℕ) → load e ≤ 2048) → ClockTime dt → Each SoundEdge blank-edge edges → Each SoundEdge blank-edge (map-from n (λ e edge. gain-busy dt (load e) edge) edges)
   unfolding map-from
   busy-from n [] few c a j = a j
   busy-from n (x ∷ edges) few c a zero = busy-summed (load n) (few n) c (a 0)
   busy-from n (x ∷ edges) few c a (suc j) = busy-from (suc n) edges few c (λ i. a (suc i)) j
 
-  pub busy-sound : (edges : List Edge) → ((e : ℕ) → load e ≤ 2048) → ClockTime dt → Each SoundEdge no-edge edges → Each SoundEdge no-edge (map-from 0 (λ e edge. gain-busy dt (load e) edge) edges)
+  pub busy-sound : (edges : List Edge) → ((e : ℕ) → load e ≤ 2048) → ClockTime dt → Each SoundEdge blank-edge edges → Each SoundEdge blank-edge (map-from 0 (λ e edge. gain-busy dt (load e) edge) edges)
   busy-sound edges few c a = busy-from 0 edges few c a
 
-  away-from : (n : ℕ) (edges : List Edge) (j : ℕ) → load (n + j) ≡ 0 → getD (map-from n (λ e edge. gain-busy dt (load e) edge) edges) j no-edge ≡ getD edges j no-edge
+  away-from : (n : ℕ) (edges : List Edge) (j : ℕ) → load (n + j) ≡ 0 → getD (map-from n (λ e edge. gain-busy dt (load e) edge) edges) j blank-edge ≡ getD edges j blank-edge
   unfolding map-from gain-busy
   away-from n [] j h = refl
   away-from n (x ∷ edges) zero h = let z : load n ≡ 0 = ap load (sym (add-zero n)) ∙ h in rw z
@@ -141,5 +141,5 @@ module _ (dt : Float) (load : ℕ → ℕ) where
       add-suc-left : (n j : ℕ) → suc n + j ≡ n + suc j
       add-suc-left n j = omega arith
 
-  pub busy-away : (edges : List Edge) (e : ℕ) → load e ≡ 0 → getD (map-from 0 (λ e edge. gain-busy dt (load e) edge) edges) e no-edge ≡ getD edges e no-edge
+  pub busy-away : (edges : List Edge) (e : ℕ) → load e ≡ 0 → getD (map-from 0 (λ e edge. gain-busy dt (load e) edge) edges) e blank-edge ≡ getD edges e blank-edge
   busy-away edges e h = away-from 0 edges e (ap load (zero-add e) ∙ h)

@@ -24,3 +24,5 @@ pub mod Draining
 pub mod Calls
 pub mod Always
 pub mod Unmoved
+pub mod Zeros
+pub mod Fillings

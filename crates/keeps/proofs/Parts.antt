@@ -15,7 +15,7 @@ use Rattle.rules.specs.declared.Clock.{Clock}
 use Rattle.rules.specs.declared.Flows.{Flows}
 use Rattle.rules.specs.Lists.{count, sum, Each, map-from}
 use Rattle.rules.specs.Tolerance.{default-tolerance}
-use Rattle.rules.specs.Records.{max-edges, max-slots, no-edge, free, no-completion, own-path, num-in-flight, before, tally-of}
+use Rattle.rules.specs.Records.{max-edges, max-slots, blank-edge, free, blank-completion, own-path, num-in-flight, before, tally-of}
 use Rattle.rules.specs.Clock.{crossings-by, counts-in-loads, edge-loads}
 use Rattle.rules.specs.Invariant.{ClockTime, SoundNext, SoundEdge, SoundSlot, Balanced, Invariant}
 
@@ -29,14 +29,14 @@ pub record ClockSound (clock : Clock) : Type 0 where
 pub record EdgesSound (edges : List Edge) (n : ℕ) : Type 0 where
   pub places : length edges ≡ max-edges
   pub few : n ≤ max-edges
-  pub sound : Each SoundEdge no-edge edges
-  pub blank : (e : ℕ) → n ≤ e → getD edges e no-edge ≡ no-edge
+  pub sound : Each SoundEdge blank-edge edges
+  pub blank : (e : ℕ) → n ≤ e → getD edges e blank-edge ≡ blank-edge
 
 -- A table with n completions waiting in it.
 pub record QueueSound (table : List Completion) (n : ℕ) : Type 0 where
   pub places : length table ≡ max-slots
-  pub ordered : (i j : ℕ) → i < j → j < n → before (getD table i no-completion) (getD table j no-completion) ≡ true
-  pub blank : (i : ℕ) → n ≤ i → getD table i no-completion ≡ no-completion
+  pub ordered : (i j : ℕ) → i < j → j < n → before (getD table i blank-completion) (getD table j blank-completion) ≡ true
+  pub blank : (i : ℕ) → n ≤ i → getD table i blank-completion ≡ blank-completion
 
 -- Who is in flight, whatever has become of them: ids and paths.
 pub record CrowdSound (slots : List Transfer) : Type 0 where

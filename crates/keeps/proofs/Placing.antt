@@ -11,7 +11,7 @@ use lib.Seq.{getD-append-add}
 use Rattle.rules.specs.declared.Transfer.{Transfer}
 use Rattle.rules.specs.Lists.{count, any, Each}
 use Rattle.rules.specs.Records.{max-path, free, route}
-use Rattle.rules.specs.Calls.{placed}
+use Rattle.rules.specs.Submission.{placed}
 use Rattle.rules.specs.Invariant.{SoundRoute}
 use Rattle.rules.proofs.Each.{each-same}
 use Rattle.keeps.proofs.Refusing.{neither}

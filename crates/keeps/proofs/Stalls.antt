@@ -31,8 +31,8 @@ most-busy = refl
 -- ---- an amount added
 pub summed : {x y : Float} → Summed x → Plain y → T (y ≼ whole (2 ^ 53)) → Summed (x ⊕ y)
 summed {x} {y} s p h =
-    let still = stall (s .plain) p top-plain (whole-plain (2 ^ 53) (omega arith)) (s .stalled) h top-stays in
-    record { plain = still .0; stalled = still .1 }
+    let still = stall (s .plain) p top-plain (whole-plain (2 ^ 53) (omega arith)) (s .bounded) h top-stays in
+    record { plain = still .0; bounded = still .1 }
 
 pub moved-summed : {e : Edge} {moved : Float} → SoundEdge e → Plain moved → T (moved ≼ whole (2 ^ 53)) → SoundEdge (gain-moved moved e)
 unfolding gain-moved

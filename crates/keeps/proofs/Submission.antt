@@ -24,7 +24,7 @@ use Rattle.rules.specs.declared.Flows.{Flows}
 use Rattle.rules.specs.Lists.{count, any, Each}
 use Rattle.rules.specs.Records.{max-path, max-slots, free, has-id, contains, num-in-flight, owner-kind, tally-of, with-in-flight, with-totals}
 use Rattle.rules.specs.Clock.{drain-to}
-use Rattle.rules.specs.Calls.{submitted-transfer, count-submitted, peak-taken, submitted}
+use Rattle.rules.specs.Submission.{submitted-transfer, count-submitted, peak-taken, submitted}
 use Rattle.rules.specs.Invariant.{SoundCap, SoundTransfer, SoundSlot, of-kind, Invariant}
 use Rattle.rules.proofs.Each.{each-set}
 use Rattle.doubles.proofs.Monotone.{count-le}

@@ -11,12 +11,17 @@ use Rattle.rules.specs.declared.Owner.{Owner}
 use Rattle.rules.specs.declared.Answer.the-variants.{Done, Listed, Unknown}
 use Rattle.rules.specs.declared.Outcome.{Outcome}
 use Rattle.rules.specs.declared.Flows.{Flows}
+use Rattle.rules.specs.declared.Call.{Call}
+use Rattle.rules.specs.declared.Call.the-variants as Call-variants
 use Rattle.rules.specs.Records as Records
 use Rattle.rules.specs.Clock.{ensure-rates, pass-time, drain-to}
 use Rattle.rules.specs.Refusals.{Cause, refusing, answering, refused, Lent, lent, refused-lent}
 use Rattle.rules.specs.Queue as Queue
-use Rattle.rules.specs.Calls as Calls
-use Rattle.rules.specs.Histories.{advance, submit, cancel, add-edge, widen, take-completed, owners-with-completions, next-completion-delay, estimate-new, estimate-remaining, mean-in-flight, rate, edge, contains, rounds, lent-buffer, call}
+use Rattle.rules.specs.Edges as Edges
+use Rattle.rules.specs.Submission as Submission
+use Rattle.rules.specs.Advance as Advance
+use Rattle.rules.specs.Cancel as Cancel
+use Rattle.rules.specs.Histories.{call}
 use Rattle.rules.specs.Unmoved.{is-no, says-no, unmoved}
 use Rattle.rules.specs.Promises.{RefusalsMoveNothing, RefusalsWriteNothing}
 use Rattle.keeps.proofs.Refusing.{refused-or}
@@ -37,19 +42,19 @@ module _ (f : Flows) where
   refuses-lent : (causes : List Cause) (buffer : List ℕ) (work : Lent) → StillLent f buffer work → StillLent f buffer (refusing causes (refused-lent f buffer) work)
   refuses-lent causes buffer work still = refused-or (StillLent f buffer) causes (refused-lent f buffer) work (λ n says. (refl, refl)) (λ none. still)
 
-still-cancel : (id : ℕ) (f : Flows) → Still f (Calls.cancel id f)
-unfolding Calls.cancel is-no
+still-cancel : (id : ℕ) (f : Flows) → Still f (Cancel.cancel id f)
+unfolding Cancel.cancel is-no
 still-cancel id f = go (Records.contains id f)
   where
-    go : (b : Bool) → Still f (cond b (answering Done (Calls.cancelled id f)) (answering Unknown f))
+    go : (b : Bool) → Still f (cond b (answering Done (Cancel.cancelled id f)) (answering Unknown f))
     go true says = absurd says
     go false says = refl
 
-still-advance : (until : Float) (f : Flows) (buffer : List ℕ) → StillLent f buffer (Calls.advance until f buffer)
-unfolding Calls.advance Calls.listing is-no
-still-advance until f buffer = refuses-lent f _ buffer _ (go (Calls.quiet (read-zero until) f) (ensure-rates (drain-to (read-zero until) f)))
+still-advance : (until : Float) (f : Flows) (buffer : List ℕ) → StillLent f buffer (Advance.advance until f buffer)
+unfolding Advance.advance Advance.list-done is-no
+still-advance until f buffer = refuses-lent f _ buffer _ (go (Advance.quiet (read-zero until) f) (ensure-rates (drain-to (read-zero until) f)))
   where
-    go : (b : Bool) (d : Flows) → StillLent f buffer (cond b (lent (answering (Listed 0) (pass-time (read-zero until) f)) buffer) (Calls.listing d (Calls.done-list d) f buffer))
+    go : (b : Bool) (d : Flows) → StillLent f buffer (cond b (lent (answering (Listed 0) (pass-time (read-zero until) f)) buffer) (Advance.list-done d (Advance.done-list d) f buffer))
     go true d = λ says. absurd says
     go false d = refuses-lent f _ buffer _ (λ says. absurd says)
 
@@ -66,31 +71,49 @@ unfolding Queue.owners-with-completions is-no
 still-owners f buffer = refuses-lent f _ buffer _ (λ says. absurd says)
 
 -- the list of owners never moves the simulator
-owners-still : (f : Flows) (buffer : List ℕ) → Queue.owners-with-completions f buffer .outcome .flows ≡ f
+pub owners-still : (f : Flows) (buffer : List ℕ) → Queue.owners-with-completions f buffer .outcome .flows ≡ f
 unfolding Queue.owners-with-completions
 owners-still f buffer = refused-or (λ (l : Lent). l .outcome .flows ≡ f) _ (refused-lent f buffer) _ (λ n. refl) (λ none. refl)
 
+call-still : (c : Call) (path : List ℕ) (f : Flows) (buffer : List ℕ) → let left = call c path f buffer in T (unmoved c (left .made .said)) → left .made .flows ≡ f
+unfolding call unmoved says-no is-no Edges.add-edge Edges.widen Submission.submit-capped
+call-still (Call-variants.Advance time) path f buffer says = still-advance time f buffer says .0
+call-still (Call-variants.Submit s) path f buffer says = refuses f _ _ (λ s. s) says
+call-still (Call-variants.Cancel id) path f buffer says = still-cancel id f says
+call-still (Call-variants.AddEdge capacity) path f buffer says = refuses f _ _ (λ s. s) says
+call-still (Call-variants.Widen e amount) path f buffer says = refuses f _ _ (λ s. s) says
+call-still (Call-variants.TakeCompleted owner) path f buffer says = still-take owner f buffer says .0
+call-still Call-variants.OwnersWithCompletions path f buffer says = owners-still f buffer
+call-still Call-variants.NextCompletionDelay path f buffer says = absurd says
+call-still (Call-variants.EstimateNew e) path f buffer says = refl
+call-still (Call-variants.EstimateRemaining id) path f buffer says = absurd says
+call-still (Call-variants.MeanInFlight e until) path f buffer says = refl
+call-still (Call-variants.Rate id) path f buffer says = absurd says
+call-still (Call-variants.Edge e) path f buffer says = refl
+call-still (Call-variants.Contains id) path f buffer says = refl
+call-still Call-variants.Rounds path f buffer says = refl
+
+-- only the calls that list write at all
+call-unwritten : (c : Call) (path : List ℕ) (f : Flows) (buffer : List ℕ) → let left = call c path f buffer in T (says-no (left .made .said)) → left .buffer ≡ buffer
+unfolding call says-no
+call-unwritten (Call-variants.Advance time) path f buffer says = still-advance time f buffer says .1
+call-unwritten (Call-variants.Submit s) path f buffer says = refl
+call-unwritten (Call-variants.Cancel id) path f buffer says = refl
+call-unwritten (Call-variants.AddEdge capacity) path f buffer says = refl
+call-unwritten (Call-variants.Widen e amount) path f buffer says = refl
+call-unwritten (Call-variants.TakeCompleted owner) path f buffer says = still-take owner f buffer says .1
+call-unwritten Call-variants.OwnersWithCompletions path f buffer says = still-owners f buffer says .1
+call-unwritten Call-variants.NextCompletionDelay path f buffer says = refl
+call-unwritten (Call-variants.EstimateNew e) path f buffer says = refl
+call-unwritten (Call-variants.EstimateRemaining id) path f buffer says = refl
+call-unwritten (Call-variants.MeanInFlight e until) path f buffer says = refl
+call-unwritten (Call-variants.Rate id) path f buffer says = refl
+call-unwritten (Call-variants.Edge e) path f buffer says = refl
+call-unwritten (Call-variants.Contains id) path f buffer says = refl
+call-unwritten Call-variants.Rounds path f buffer says = refl
+
 pub refusals-move-nothing : RefusalsMoveNothing
-unfolding call unmoved says-no is-no Calls.add-edge Calls.widen Calls.submit-capped
-refusals-move-nothing (advance size until) f says = still-advance until f (lent-buffer size) says .0
-refusals-move-nothing (submit id owner path bytes latency cap until) f says = refuses f _ _ (λ s. s) says
-refusals-move-nothing (cancel id) f says = still-cancel id f says
-refusals-move-nothing (add-edge capacity) f says = refuses f _ _ (λ s. s) says
-refusals-move-nothing (widen e amount) f says = refuses f _ _ (λ s. s) says
-refusals-move-nothing (take-completed size owner) f says = still-take owner f (lent-buffer size) says .0
-refusals-move-nothing (owners-with-completions size) f says = owners-still f (lent-buffer size)
-refusals-move-nothing next-completion-delay f says = absurd says
-refusals-move-nothing (estimate-new path bytes latency cap) f says = refl
-refusals-move-nothing (estimate-remaining id) f says = absurd says
-refusals-move-nothing (mean-in-flight e until) f says = refl
-refusals-move-nothing (rate id) f says = absurd says
-refusals-move-nothing (edge e) f says = refl
-refusals-move-nothing (contains id) f says = refl
-refusals-move-nothing rounds f says = refl
+refusals-move-nothing t f says = call-still (t .call) (t .path) f (t .buffer) says
 
 pub refusals-write-nothing : RefusalsWriteNothing
-refusals-write-nothing = record {
-  advancing = λ until f buffer says. still-advance until f buffer says .1;
-  collecting = λ owner f buffer says. still-take owner f buffer says .1;
-  asking = λ f buffer says. still-owners f buffer says .1;
-}
+refusals-write-nothing t f says = call-unwritten (t .call) (t .path) f (t .buffer) says

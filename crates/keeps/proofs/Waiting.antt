@@ -10,7 +10,7 @@ use Rattle.rules.specs.declared.Owner.{Owner}
 use Rattle.rules.specs.declared.Completion.{Completion}
 use Rattle.rules.specs.declared.Flows.{Flows}
 use Rattle.rules.specs.Lists.{those}
-use Rattle.rules.specs.Records.{max-slots, no-completion, waiting, before, with-waiting}
+use Rattle.rules.specs.Records.{max-slots, blank-completion, waiting, before, with-waiting}
 use Rattle.rules.specs.Queue.{belongs, collected}
 use Rattle.rules.specs.Invariant.{Invariant}
 use Rattle.rules.proofs.Each.{each-same}
@@ -22,9 +22,9 @@ use Rattle.keeps.proofs.Ascending.{After, Ascending, ascending-those, t
 
 -- The order told by places.
 abbrev Ordered : List Completion → Type 0
-Ordered queue = (i j : ℕ) → i < j → j < length queue → before (getD queue i no-completion) (getD queue j no-completion) ≡ true
+Ordered queue = (i j : ℕ) → i < j → j < length queue → before (getD queue i blank-completion) (getD queue j blank-completion) ≡ true
 
-after-by-place : (c : Completion) (queue : List Completion) → ((j : ℕ) → j < length queue → before c (getD queue j no-completion) ≡ true) → After c queue
+after-by-place : (c : Completion) (queue : List Completion) → ((j : ℕ) → j < length queue → before c (getD queue j blank-completion) ≡ true) → After c queue
 after-by-place c [] h = tt
 after-by-place c (d ∷ queue) h = (h 0 (omega arith), after-by-place c queue (λ j l. h (suc j) (omega arith)))
 
@@ -32,7 +32,7 @@ ascending-by-place : (queue : List Completion) → Ordered queue → Ascending q
 ascending-by-place [] h = tt
 ascending-by-place (c ∷ queue) h = (after-by-place c queue (λ j l. h 0 (suc j) (omega arith) (omega arith)), ascending-by-place queue (λ i j l m. h (suc i) (suc j) (omega arith) (omega arith)))
 
-after-at : (c : Completion) (queue : List Completion) → After c queue → (j : ℕ) → j < length queue → before c (getD queue j no-completion) ≡ true
+after-at : (c : Completion) (queue : List Completion) → After c queue → (j : ℕ) → j < length queue → before c (getD queue j blank-completion) ≡ true
 after-at c [] a j l = absurd (omega arith)
 after-at c (d ∷ queue) a zero l = a .0
 after-at c (d ∷ queue) a (suc j) l = after-at c queue (a .1) j (omega arith)
@@ -53,22 +53,22 @@ module _ {table : List Completion} {n : ℕ} (sound : QueueSound table n) (few :
   waiting-ascends = ascending-by-place (take n table) (λ i j l m.
       let j-in : j < n = omega (arith, m, waiting-length) in
       let i-in : i < n = omega arith in
-      rw (getD-take n table i no-completion i-in, getD-take n table j no-completion j-in) (sound .ordered i j l j-in))
+      rw (getD-take n table i blank-completion i-in, getD-take n table j blank-completion j-in) (sound .ordered i j l j-in))
 
 -- A queue with its blanks.
 abbrev pub with-blanks : List Completion → List Completion
-with-blanks queue = queue ++ replicate (max-slots - length queue) no-completion
+with-blanks queue = queue ++ replicate (max-slots - length queue) blank-completion
 
 pub queue-sound : (queue : List Completion) → Ascending queue → length queue ≤ max-slots → QueueSound (with-blanks queue) (length queue)
 queue-sound queue a few = record {
-  places = length-append queue (replicate (max-slots - length queue) no-completion) ∙ rw (length-replicate (max-slots - length queue) no-completion) (omega arith);
+  places = length-append queue (replicate (max-slots - length queue) blank-completion) ∙ rw (length-replicate (max-slots - length queue) blank-completion) (omega arith);
   ordered = λ i j l m.
-      rw (List·getD-append queue (replicate (max-slots - length queue) no-completion) no-completion i (omega arith), List·getD-append queue (replicate (max-slots - length queue) no-completion) no-completion j m)
+      rw (List·getD-append queue (replicate (max-slots - length queue) blank-completion) blank-completion i (omega arith), List·getD-append queue (replicate (max-slots - length queue) blank-completion) blank-completion j m)
       (ordered queue a i j l m);
   blank = λ i l.
       let z : i ≡ length queue + (i - length queue) = omega arith in
-      rw (z, getD-append-add queue (replicate (max-slots - length queue) no-completion) (i - length queue) no-completion)
-      (each-same (λ (c : Completion). c ≡ no-completion) no-completion (max-slots - length queue) no-completion refl refl (i - length queue));
+      rw (z, getD-append-add queue (replicate (max-slots - length queue) blank-completion) (i - length queue) blank-completion)
+      (each-same (λ (c : Completion). c ≡ blank-completion) blank-completion (max-slots - length queue) blank-completion refl refl (i - length queue));
 }
 
 -- ---- collecting

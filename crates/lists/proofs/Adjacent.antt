@@ -10,7 +10,7 @@ use lib.Seq.{getD-take, getD-drop}
 use Rattle.rules.specs.declared.Owner.{Owner}
 use Rattle.rules.specs.declared.Completion.{Completion}
 use Rattle.rules.specs.Lists.{any}
-use Rattle.rules.specs.Records.{no-completion, owner-kind, same-owner, owner-before, before}
+use Rattle.rules.specs.Records.{blank-completion, owner-kind, same-owner, owner-before, before}
 use Rattle.rules.specs.Queue.{belongs, owners}
 use Rattle.rules.proofs.Steps.{getD-any}
 use Rattle.queue.specs.Tables.{InOrder}
@@ -52,7 +52,7 @@ owner-past a d e p q s =
 
 module _ (table : List Completion) (n i : ℕ) (d : Completion) (order : InOrder n table) (l : n ≤ length table) where
   ordered : (j k : ℕ) → j < k → k < n → before (getD table j d) (getD table k d) ≡ true
-  ordered j k h m = rw (getD-any table j d no-completion (omega arith), getD-any table k d no-completion (omega arith)) (order .ordered j k h m)
+  ordered j k h m = rw (getD-any table j d blank-completion (omega arith), getD-any table k d blank-completion (omega arith)) (order .ordered j k h m)
 
   -- past an entry of another owner the owner does not come again
   later : i + 1 < n → same-owner (getD table i d .owner) (getD table (i + 1) d .owner) ≡ false → (k : ℕ) → k < length (drop (i + 1 + 1) (take n table)) → belongs (getD table i d .owner) (getD (drop (i + 1 + 1) (take n table)) k d) ≡ false

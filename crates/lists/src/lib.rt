@@ -6,7 +6,7 @@ ghost use Prim.Native.Nat.{_≤_, _<_, _+_, _*_};
 ghost use mathlib.Core.Path.{_≡_};
 ghost use lib.ListN.{length, take, drop, getD};
 ghost use Rattle.rules.specs.Lists.{any, write-front};
-ghost use Rattle.rules.specs.Records.{no-completion};
+ghost use Rattle.rules.specs.Records.{blank-completion};
 ghost use Rattle.rules.specs.Queue.{triples, belongs, owners, pairs, owners-with-completions};
 ghost use Rattle.rules.specs.Invariant.{Invariant};
 ghost use Rattle.queue.specs.Tables.{InOrder};
@@ -56,7 +56,7 @@ fn comes_again(completed: [Completion; 256], n: usize, i: usize) -> bool
     requires { ⌜ n ≤ 256 ⌝ }
     requires { ⌜ i < n ⌝ }
     requires { ⌜ InOrder n completed ⌝ }
-    ensures { λ r. ⌜ r ≡ any (belongs (getD completed i no-completion .owner)) (drop (i + 1) (take n completed)) ⌝ }
+    ensures { λ r. ⌜ r ≡ any (belongs (getD completed i blank-completion .owner)) (drop (i + 1) (take n completed)) ⌝ }
 {
     let j = i + 1;
     if n <= j {

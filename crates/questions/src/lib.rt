@@ -26,7 +26,7 @@ pub fn next_completion_delay(flows: Flows) -> Outcome
     let next_done_at = clock.next_done_at;
     let delay = delay_until(clock.now, next_done_at);
     Outcome {
-        answer: Answer::Wait(delay),
+        answer: Answer::Due(delay),
         flows: after,
     }
 }

@@ -1,7 +1,7 @@
--- The fresh simulator keeps the invariant. Assumes nothing.
+-- The fresh simulator keeps the invariant, and so does one that differs from it in totals that balance. Assumes nothing.
 use mathlib.Core.Path.{_≡_, refl}
 use mathlib.Core.Bool.{true, false}
-use Prim.Native.Nat.{ℕ}
+use Prim.Native.Nat.{ℕ, _≤_}
 use native.Mathlib.Omega.{arith}
 use lib.ListN.{getD, replicate}
 use Rattle.doubles.specs.Doubles.{nought, Plain}
@@ -10,7 +10,9 @@ use Rattle.rules.specs.declared.Owner.the-variants.{Worker, Handoff, Wri
 use Rattle.rules.specs.declared.Edge.{Edge}
 use Rattle.rules.specs.declared.Transfer.{Transfer}
 use Rattle.rules.specs.declared.Completion.{Completion}
-use Rattle.rules.specs.Records.{fresh, free, no-edge, no-completion, tally-of}
+use Rattle.rules.specs.declared.Totals.{Totals}
+use Rattle.rules.specs.declared.Flows.{Flows}
+use Rattle.rules.specs.Records.{max-slots, fresh, free, blank-edge, blank-completion, tally-of, with-totals}
 use Rattle.rules.specs.Invariant.{Invariant, Summed, SoundEdge, SoundSlot, Balanced, nobody}
 use Rattle.rules.proofs.Everything.{everything}
 use Rattle.rules.proofs.Each.{each-same}
@@ -23,9 +25,9 @@ nought-plain = record { is-plain = tt; is-held = tt }
 
 pub nought-summed : Summed nought
 unfolding everything
-nought-summed = record { plain = nought-plain; stalled = tt }
+nought-summed = record { plain = nought-plain; bounded = tt }
 
-pub no-edge-sound : SoundEdge no-edge
+pub no-edge-sound : SoundEdge blank-edge
 no-edge-sound = record { capacity = nought-plain; moved = nought-summed; busy = nought-summed }
 
 -- no blank is taken, whatever the place
@@ -38,18 +40,18 @@ untaken i e =
     let z : _≡_ {A = ℕ} 0 1 = cc in
     absurd (omega (arith, z))
 
-free-sound : SoundSlot fresh free
+free-sound : {f : Flows} → SoundSlot f free
 free-sound = record { held = λ e. absurd (let z : _≡_ {A = ℕ} 0 1 = cc in omega (arith, z)); blank = λ e. refl }
 
-none-balanced : (owner : Owner) → Balanced (fresh .«in_flight») owner (tally-of owner (fresh .totals))
+pub none-balanced : (owner : Owner) → Balanced (fresh .«in_flight») owner (tally-of owner (fresh .totals))
 unfolding everything
 none-balanced (Worker n) = record { accounted = refl; fits = omega arith; bytes = nought-summed }
 none-balanced Handoff = record { accounted = refl; fits = omega arith; bytes = nought-summed }
 none-balanced Write = record { accounted = refl; fits = omega arith; bytes = nought-summed }
 
-pub fresh-keeps : Invariant fresh
+pub counted-keeps : (totals : Totals) → totals .«peak_in_flight» ≤ max-slots → ((owner : Owner) → Balanced (fresh .«in_flight») owner (tally-of owner totals)) → Invariant (with-totals totals fresh)
 unfolding everything
-fresh-keeps = record {
+counted-keeps totals peak balanced = record {
   edge-places = refl;
   slot-places = refl;
   queue-places = refl;
@@ -57,20 +59,24 @@ fresh-keeps = record {
   next-done = nobody;
   tolerance = refl;
   few-edges = omega arith;
-  edges = each-same SoundEdge no-edge 64 no-edge no-edge-sound no-edge-sound;
-  edges-blank = λ e h. each-same (λ (x : Edge). x ≡ no-edge) no-edge 64 no-edge refl refl e;
-  slots = each-same (SoundSlot fresh) free 256 free free-sound free-sound;
+  edges = each-same SoundEdge blank-edge 64 blank-edge no-edge-sound no-edge-sound;
+  edges-blank = λ e h. each-same (λ (x : Edge). x ≡ blank-edge) blank-edge 64 blank-edge refl refl e;
+  slots = each-same (SoundSlot (with-totals totals fresh)) free 256 free free-sound free-sound;
   ids-differ = λ i j a b e. untaken i a;
   drained-together = λ i j a b. untaken i a;
   stale-drained = λ e. absurd (let z : _≡_ {A = ℕ} 0 1 = cc in omega (arith, z));
   path-room = omega arith;
   queue-ordered = λ i j a b. absurd (omega arith);
-  queue-blank = λ i h. each-same (λ (x : Completion). x ≡ no-completion) no-completion 256 no-completion refl refl i;
+  queue-blank = λ i h. each-same (λ (x : Completion). x ≡ blank-completion) blank-completion 256 blank-completion refl refl i;
   room = omega arith;
   peak-reached = omega arith;
-  peak-bound = omega arith;
-  balanced = none-balanced;
+  peak-bound = peak;
+  balanced = balanced;
   load-right = λ e. refl;
   few-rounds = λ e. omega arith;
   rounds-bound = omega arith;
 }
+
+pub fresh-keeps : Invariant fresh
+unfolding with-totals
+fresh-keeps = counted-keeps (fresh .totals) (omega arith) none-balanced

@@ -13,3 +13,5 @@ pub mod Routes
 pub mod Everything
 pub mod Fresh
 pub mod Cases
+pub mod LastNumber
+pub mod Causes

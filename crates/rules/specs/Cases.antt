@@ -1,5 +1,5 @@
 -- The cases of document 01 as tables of calls and what each must give. (01, Cases) Definitions only; proofs/Cases.antt shows that they hold.
-use Prim.Native.Nat.{ℕ, zero, suc, _+_, _-_, _^_}
+use Prim.Native.Nat.{ℕ, zero, suc, _+_, _-_, _^_, _<_}
 use mathlib.Core.Path.{_≡_}
 use mathlib.Core.Bool.{Bool, true, false, _&&_}
 use mathlib.Core.List.{List, [], _∷_, _++_}
@@ -7,31 +7,36 @@ use lib.Dec.{eqb}
 use lib.ListN.{replicate}
 use lib.Ieee.{Float}
 use Rattle.doubles.specs.Doubles.{nought, whole, infinity, nearest, bits-of}
-use Rattle.rules.specs.declared.Owner.the-variants.{Worker}
+use Rattle.rules.specs.declared.Owner.{Owner}
+use Rattle.rules.specs.declared.Owner.the-variants.{Worker, Handoff, Write}
 use Rattle.rules.specs.declared.Cap.{Cap}
 use Rattle.rules.specs.declared.Cap.the-variants.{AtMost, Uncapped}
 use Rattle.rules.specs.declared.Delay.{Delay}
 use Rattle.rules.specs.declared.Delay.the-variants.{After, Never}
-use Rattle.rules.specs.declared.Answer.the-variants.{Done, Added, Listed, Value, Wait, Refused}
+use Rattle.rules.specs.declared.Answer.{Answer}
+use Rattle.rules.specs.declared.Answer.the-variants.{Done, Added, Listed, Value, Due, Refused}
 use Rattle.rules.specs.declared.EdgeRead.the-variants.{Found}
+use Rattle.rules.specs.declared.Tally.{Tally}
 use Rattle.rules.specs.declared.Flows.{Flows}
+use Rattle.rules.specs.declared.Call.{Call}
+use Rattle.rules.specs.declared.Call.the-variants.{Advance, Submit, Cancel, AddEdge, Widen, TakeCompleted, NextCompletionDelay, EstimateNew, Rate, Edge, Rounds}
+use Rattle.rules.specs.declared.Said.{Said}
+use Rattle.rules.specs.declared.Said.the-variants as Said-variants
 use Rattle.rules.specs.Lists.{all}
 use Rattle.rules.specs.Tolerance.{default-tolerance}
 use Rattle.rules.specs.Tolerance as Tolerance
-use Rattle.rules.specs.Records.{fresh}
-use Rattle.rules.specs.Histories.{Call, advance, submit, cancel, add-edge, widen, take-completed, next-completion-delay, estimate-new, rate, edge, rounds, Said, said, listed, edge-read, number, told, lent-buffer, call}
+use Rattle.rules.specs.Records.{fresh, on-tally}
+use Rattle.rules.specs.Invariant.{Invariant}
+use Rattle.rules.specs.Histories.{Turn, after}
+use Rattle.rules.specs.Told.{told}
 
 -- ---- tables
 
-infix 68 _gives_
--- A call and what it must give.
+-- A turn, what it must say, and what its buffer must then hold.
 pub record Step : Type 0 where
-  pub call : Call
-  pub expected : Said
-
--- A step of a table.
-abbrev pub _gives_ : Call → Said → Step
-c gives s = record { call = c; expected = s }
+  pub turn : Turn
+  pub said : Said
+  pub buffer : List ℕ
 
 -- Whether two lists are the same numbers.
 unfoldable pub same : List ℕ → List ℕ → Bool
@@ -40,10 +45,12 @@ same [] (n ∷ ns) = false
 same (m ∷ ms) [] = false
 same (m ∷ ms) (n ∷ ns) = eqb m n && same ms ns
 
--- Whether the calls of a table, made in order on that simulator, give what it says.
+-- Whether the turns of a table, taken in order from that simulator on, give what it says.
 unfoldable pub gives-all : Flows → List Step → Bool
 gives-all f [] = true
-gives-all f (s ∷ steps) = let left = call (s .call) f in same (told (left .said)) (told (s .expected)) && gives-all (left .flows) steps
+gives-all f (s ∷ steps) =
+    let left = after (s .turn) f in
+    same (told (left .made .said)) (told (s .said)) && (same (left .buffer) (s .buffer) && gives-all (left .made .flows) steps)
 
 -- A table holds where it does so on a fresh simulator.
 unfoldable pub holds : List Step → Bool
@@ -51,37 +58,67 @@ holds steps = gives-all fresh steps
 
 -- ---- how the tables are written: whole numbers, worker 0, time 0, a buffer of six places
 
+-- A lent buffer, filled with a pattern that no rule writes on purpose.
+abbrev pub lent-buffer : ℕ → List ℕ
+lent-buffer n = replicate n 0xa5a5a5a5
+
+-- A call with no buffer along a path.
+abbrev along : List ℕ → Call → Said → Step
+along path c s = record { turn = record { call = c; path = path; buffer = [] }; said = s; buffer = [] }
+
+infix 68 _says_
+-- A call with neither path nor buffer, and what it must say.
+abbrev _says_ : Call → Said → Step
+c says s = along [] c s
+
+infix 68 _answers_
+-- The same where it says an answer.
+abbrev _answers_ : Call → Answer → Step
+c answers a = c says Said-variants.Answered a
+
+-- A call that is lent a buffer of n places, its answer, and what the buffer must then hold.
+abbrev lending : ℕ → Call → Answer → List ℕ → Step
+lending n c a buffer = record { turn = record { call = c; path = []; buffer = lent-buffer n }; said = Said-variants.Answered a; buffer = buffer }
+
 -- The edge of that number is added.
 abbrev new-edge : ℕ → ℕ → Step
-new-edge e capacity = add-edge (whole capacity) gives said (Added e)
+new-edge e capacity = AddEdge (whole capacity) answers Added e
+
+-- A submission at a time, and its answer.
+abbrev submitting : ℕ → Owner → List ℕ → ℕ → Float → Cap → Float → Answer → Step
+submitting id owner path bytes latency cap time a = along path (Submit (record { id = id; owner = owner; bytes = bytes; latency = latency; cap = cap; time = time })) (Said-variants.Answered a)
 
 -- A transfer is submitted and taken.
 abbrev sent : ℕ → List ℕ → ℕ → ℕ → Cap → Step
-sent id path bytes latency cap = submit id (Worker 0) path bytes (whole latency) cap nought gives said Done
+sent id path bytes latency cap = submitting id (Worker 0) path bytes (whole latency) cap nought Done
+
+-- An estimate, and its answer.
+abbrev estimating : List ℕ → Float → Float → Cap → Answer → Step
+estimating path bytes latency cap a = along path (EstimateNew (record { bytes = bytes; latency = latency; cap = cap })) (Said-variants.Answered a)
 
 -- A transfer has that rate.
 abbrev runs-at : ℕ → ℕ → Step
-runs-at id r = rate id gives said (Value (whole r))
+runs-at id r = Rate id answers Value (whole r)
 
 -- The last filling took so many rounds.
 abbrev took-rounds : ℕ → Step
-took-rounds n = rounds gives number n
+took-rounds n = Rounds says Said-variants.Number n
 
 -- The next completion is that far away.
 abbrev delay-is : Delay → Step
-delay-is d = next-completion-delay gives said (Wait d)
+delay-is d = NextCompletionDelay answers Due d
 
 -- An advance lists nobody and leaves the buffer alone.
 abbrev lists-nobody : ℕ → Step
-lists-nobody T = advance 6 (whole T) gives listed (Listed 0) (lent-buffer 6)
+lists-nobody T = lending 6 (Advance (whole T)) (Listed 0) (lent-buffer 6)
 
 -- An advance lists one transfer of worker 0.
 abbrev lists-one : ℕ → ℕ → Step
-lists-one T id = advance 6 (whole T) gives listed (Listed 1) (0 ∷ 0 ∷ id ∷ lent-buffer 3)
+lists-one T id = lending 6 (Advance (whole T)) (Listed 1) (0 ∷ 0 ∷ id ∷ lent-buffer 3)
 
 -- An edge has that capacity, so many bytes moved and that load integral.
 abbrev edge-is : ℕ → ℕ → ℕ → ℕ → Step
-edge-is e capacity moved busy = edge e gives edge-read (Found (record { capacity = whole capacity; «bytes_moved» = whole moved; «busy_transfer_seconds» = whole busy }))
+edge-is e capacity moved busy = Edge e says Said-variants.Edge (Found (record { capacity = whole capacity; «bytes_moved» = whole moved; «busy_transfer_seconds» = whole busy }))
 
 -- ---- cases 1 to 12
 
@@ -132,7 +169,7 @@ cases =
     ∷ [])
     -- 6: no edge and no cap
     ∷ (sent 1 [] 1000 0 Uncapped
-    ∷ rate 1 gives said (Value infinity)
+    ∷ Rate 1 answers Value infinity
     ∷ lists-one 0 1
     ∷ took-rounds 0
     ∷ [])
@@ -154,7 +191,7 @@ cases =
     ∷ (new-edge 0 12
     ∷ sent 1 (0 ∷ []) 100 0 Uncapped
     ∷ sent 2 (0 ∷ []) 100 0 Uncapped
-    ∷ estimate-new (0 ∷ []) (whole 8) (whole 1) Uncapped gives said (Value (whole 3))
+    ∷ estimating (0 ∷ []) (whole 8) (whole 1) Uncapped (Value (whole 3))
     ∷ [])
     -- 12: who still pays its latency has its share all the same
     ∷ (new-edge 0 10
@@ -189,7 +226,7 @@ vault-door =
     ∷ sent 2 (0 ∷ []) 100 0 Uncapped
     ∷ lists-nobody 0
     ∷ lists-nobody 10
-    ∷ cancel 2 gives said Done
+    ∷ Cancel 2 answers Done
     ∷ edge-is 0 10 100 20
     ∷ delay-is (After (whole 5))
     ∷ lists-nobody 12
@@ -201,11 +238,11 @@ vault-door =
 -- 14: ids are collected in ascending order, and not into a buffer that is short.
 abbrev pub collection : List Step
 collection =
-    submit 9 (Worker 3) [] 0 nought Uncapped nought gives said Done
-    ∷ submit 2 (Worker 3) [] 0 nought Uncapped nought gives said Done
-    ∷ advance 6 nought gives listed (Listed 2) (0 ∷ 3 ∷ 2 ∷ 0 ∷ 3 ∷ 9 ∷ [])
-    ∷ take-completed 1 (Worker 3) gives listed (Refused 8) (lent-buffer 1)
-    ∷ take-completed 3 (Worker 3) gives listed (Listed 2) (2 ∷ 9 ∷ lent-buffer 1)
+    submitting 9 (Worker 3) [] 0 nought Uncapped nought Done
+    ∷ submitting 2 (Worker 3) [] 0 nought Uncapped nought Done
+    ∷ lending 6 (Advance nought) (Listed 2) (0 ∷ 3 ∷ 2 ∷ 0 ∷ 3 ∷ 9 ∷ [])
+    ∷ lending 1 (TakeCompleted (Worker 3)) (Refused 8) (lent-buffer 1)
+    ∷ lending 3 (TakeCompleted (Worker 3)) (Listed 2) (2 ∷ 9 ∷ lent-buffer 1)
     ∷ []
 
 -- n more edges, numbered from e.
@@ -215,19 +252,19 @@ numbered (suc n) e = new-edge e 1 ∷ numbered n (suc e)
 
 -- 15: 64 and 65 edges.
 abbrev pub edge-limit : List Step
-edge-limit = numbered 64 0 ++ (add-edge (whole 1) gives said (Refused 7) ∷ [])
+edge-limit = numbered 64 0 ++ (AddEdge (whole 1) answers Refused 7 ∷ [])
 
 -- 15: 8 and 9 edges in a path, 2^53 bytes and one more, a time at the clock and the double below it.
 abbrev pub both-sides : List Step
 both-sides =
     new-edge 0 1
     ∷ sent 1 (replicate 8 0) 1 0 Uncapped
-    ∷ submit 2 (Worker 0) (replicate 9 0) 1 nought Uncapped nought gives said (Refused 4)
+    ∷ submitting 2 (Worker 0) (replicate 9 0) 1 nought Uncapped nought (Refused 4)
     ∷ sent 3 [] (2 ^ 53) 0 Uncapped
-    ∷ submit 4 (Worker 0) [] (2 ^ 53 + 1) nought Uncapped nought gives said (Refused 5)
+    ∷ submitting 4 (Worker 0) [] (2 ^ 53 + 1) nought Uncapped nought (Refused 5)
     ∷ lists-one 1 3
-    ∷ submit 5 (Worker 0) [] 1 nought Uncapped (whole 1) gives said Done
-    ∷ submit 6 (Worker 0) [] 1 nought Uncapped (nearest (2 ^ 53 - 1) (2 ^ 53)) gives said (Refused 2)
+    ∷ submitting 5 (Worker 0) [] 1 nought Uncapped (whole 1) Done
+    ∷ submitting 6 (Worker 0) [] 1 nought Uncapped (nearest (2 ^ 53 - 1) (2 ^ 53)) (Refused 2)
     ∷ []
 
 -- A rate is taken off an edge once for each crossing: two less three thirds, one after another, is not quite one. (01, Slips)
@@ -239,7 +276,7 @@ crossing-by-crossing =
     ∷ sent 2 (0 ∷ 1 ∷ []) 100 0 Uncapped
     ∷ sent 3 (0 ∷ 1 ∷ []) 100 0 Uncapped
     ∷ sent 4 (1 ∷ []) 100 0 Uncapped
-    ∷ rate 4 gives said (Value (nearest (2 ^ 52 + 1) (2 ^ 52)))
+    ∷ Rate 4 answers Value (nearest (2 ^ 52 + 1) (2 ^ 52))
     ∷ []
 
 -- Where several refusals apply the lowest is answered. (01, Numbers)
@@ -247,12 +284,34 @@ abbrev pub lowest-first : List Step
 lowest-first =
     new-edge 0 1
     ∷ lists-nobody 2
-    ∷ submit 1 (Worker 0) (replicate 9 7) (2 ^ 53 + 1) nought Uncapped (whole 1) gives said (Refused 2)
-    ∷ submit 1 (Worker 0) (replicate 9 7) (2 ^ 53 + 1) nought Uncapped (whole 2) gives said (Refused 3)
-    ∷ submit 1 (Worker 0) (replicate 9 0) (2 ^ 53 + 1) nought Uncapped (whole 2) gives said (Refused 4)
-    ∷ submit 1 (Worker 0) (replicate 8 0) (2 ^ 53 + 1) nought Uncapped (whole 2) gives said (Refused 5)
-    ∷ widen 7 infinity gives said (Refused 1)
-    ∷ widen 7 (whole 1) gives said (Refused 3)
-    ∷ estimate-new (replicate 9 7) (whole 1) nought (AtMost infinity) gives said (Refused 1)
-    ∷ estimate-new (replicate 9 7) (whole 1) nought Uncapped gives said (Refused 3)
+    ∷ submitting 1 (Worker 0) (replicate 9 7) (2 ^ 53 + 1) nought Uncapped (whole 1) (Refused 2)
+    ∷ submitting 1 (Worker 0) (replicate 9 7) (2 ^ 53 + 1) nought Uncapped (whole 2) (Refused 3)
+    ∷ submitting 1 (Worker 0) (replicate 9 0) (2 ^ 53 + 1) nought Uncapped (whole 2) (Refused 4)
+    ∷ submitting 1 (Worker 0) (replicate 8 0) (2 ^ 53 + 1) nought Uncapped (whole 2) (Refused 5)
+    ∷ Widen 7 infinity answers Refused 1
+    ∷ Widen 7 (whole 1) answers Refused 3
+    ∷ estimating (replicate 9 7) (whole 1) nought (AtMost infinity) (Refused 1)
+    ∷ estimating (replicate 9 7) (whole 1) nought Uncapped (Refused 3)
     ∷ []
+
+-- ---- the last number of a kind
+
+-- A simulator whose kind of owner has submitted n transfers, all of them completed and collected.
+abbrev pub submitted-before : Owner → ℕ → Flows
+submitted-before owner n = on-tally owner (λ y. record { submitted = n; completed = n; cancelled = 0; «bytes_submitted» = y .«bytes_submitted» }) fresh
+
+-- One more is taken after 2^64-2, and none after 2^64-1. (01, Numbers)
+unfoldable pub last-taken : Owner → Bool
+last-taken owner =
+    gives-all (submitted-before owner (2 ^ 64 - 2))
+    (submitting 1 owner [] 1 nought Uncapped nought Done
+    ∷ submitting 2 owner [] 1 nought Uncapped nought (Refused 9)
+    ∷ [])
+    && gives-all (submitted-before owner (2 ^ 64 - 1))
+    (submitting 1 owner [] 1 nought Uncapped nought (Refused 9)
+    ∷ [])
+
+-- Refusal 9, for each kind of owner: those simulators keep the invariant, and it comes neither one early nor one late. (01, Numbers)
+pub record LastNumber : Type 0 where
+  pub sound : (owner : Owner) (n : ℕ) → n < 2 ^ 64 → Invariant (submitted-before owner n)
+  pub taken : (last-taken (Worker 0) && (last-taken Handoff && last-taken Write)) ≡ true

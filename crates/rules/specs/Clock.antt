@@ -123,3 +123,11 @@ drain-slots T f =
 -- Drain to T: rates first, where T is past the clock; then the slots; then time passes. (01, Clock)
 unfoldable pub drain-to : Float → Flows → Flows
 drain-to T f = pass-time T (drain-slots T (cond (f .clock .now ≺ T) (ensure-rates f) f))
+
+-- Drained to T, with rates up to date there, as every advance that is not quiet begins. (01, Clock)
+abbrev pub settled : Float → Flows → Flows
+settled T f = ensure-rates (drain-to T f)
+
+-- The simulator drained to its clock, as every change of edges and every known cancel begins. (01, Departures)
+unfoldable pub drained-to-clock : Flows → Flows
+drained-to-clock f = drain-to (f .clock .now) f

@@ -14,13 +14,13 @@ use Rattle.rules.specs.declared.Edge.{Edge}
 use Rattle.rules.specs.declared.Transfer.{Transfer}
 use Rattle.rules.specs.declared.Flows.{Flows}
 use Rattle.rules.specs.Lists.{count, sum, crossings}
-use Rattle.rules.specs.Records.{no-edge, free, path-of}
+use Rattle.rules.specs.Records.{blank-edge, free, path-of}
 use Rattle.rules.specs.Clock.{crossings-by}
 use Rattle.rules.specs.Filling.{takes-part, recompute-rates}
 
 -- The exact capacity of edge e.
 unfoldable pub C : List Edge → ℕ → ℕ
-C edges e = exact (getD edges e no-edge .capacity)
+C edges e = exact (getD edges e blank-edge .capacity)
 
 module _ (path : Transfer → List ℕ) where
   -- The transfers of the demand: more than B bytes left, and a path that isn't empty.

@@ -20,7 +20,7 @@ use Rattle.rules.specs.declared.Tally.{Tally}
 use Rattle.rules.specs.declared.Flows.{Flows}
 use Rattle.rules.specs.Lists.{count, sum, Each}
 use Rattle.rules.specs.Tolerance.{default-tolerance}
-use Rattle.rules.specs.Records.{max-edges, max-path, max-slots, no-edge, free, no-completion, path-of, num-in-flight, before, owner-kind, tally-of}
+use Rattle.rules.specs.Records.{max-edges, max-path, max-slots, blank-edge, free, blank-completion, path-of, num-in-flight, before, owner-kind, tally-of}
 use Rattle.rules.specs.Clock.{edge-loads}
 
 -- ---- doubles
@@ -28,7 +28,7 @@ use Rattle.rules.specs.Clock.{edge-loads}
 -- A running sum of amounts up to 2^53: it stalls at 2^107, where adding such an amount no longer changes it.
 pub record Summed (x : Float) : Type 0 where
   pub plain : Plain x
-  pub stalled : T (x ≼ whole (2 ^ 107))
+  pub bounded : T (x ≼ whole (2 ^ 107))
 
 -- A clock time, from 0 to 2^40 seconds.
 pub record ClockTime (x : Float) : Type 0 where
@@ -102,8 +102,8 @@ pub record Invariant (f : Flows) : Type 0 where
   pub tolerance : f .tolerance ≡ default-tolerance
   -- edges
   pub few-edges : f .«num_edges» ≤ max-edges
-  pub edges : Each SoundEdge no-edge (f .edges)
-  pub edges-blank : (e : ℕ) → f .«num_edges» ≤ e → getD (f .edges) e no-edge ≡ no-edge
+  pub edges : Each SoundEdge blank-edge (f .edges)
+  pub edges-blank : (e : ℕ) → f .«num_edges» ≤ e → getD (f .edges) e blank-edge ≡ blank-edge
   -- transfers
   pub slots : Each (SoundSlot f) free (f .«in_flight»)
   pub ids-differ : (i j : ℕ) → getD (f .«in_flight») i free .taken ≡ true → getD (f .«in_flight») j free .taken ≡ true → getD (f .«in_flight») i free .id ≡ getD (f .«in_flight») j free .id → i ≡ j
@@ -113,8 +113,8 @@ pub record Invariant (f : Flows) : Type 0 where
   -- the paths in flight have at most 2,048 entries together
   pub path-room : sum (map (λ t. length (path-of f t)) (f .«in_flight»)) ≤ 2048
   -- the queue: in order, so no entry twice, and blank behind
-  pub queue-ordered : (i j : ℕ) → i < j → j < f .«num_completed» → before (getD (f .completed) i no-completion) (getD (f .completed) j no-completion) ≡ true
-  pub queue-blank : (i : ℕ) → f .«num_completed» ≤ i → getD (f .completed) i no-completion ≡ no-completion
+  pub queue-ordered : (i j : ℕ) → i < j → j < f .«num_completed» → before (getD (f .completed) i blank-completion) (getD (f .completed) j blank-completion) ≡ true
+  pub queue-blank : (i : ℕ) → f .«num_completed» ≤ i → getD (f .completed) i blank-completion ≡ blank-completion
   -- room, peak and tallies
   pub room : num-in-flight f + f .«num_completed» ≤ max-slots
   pub peak-reached : num-in-flight f ≤ f .totals .«peak_in_flight»

@@ -6,9 +6,13 @@ pub mod Filling
 pub mod Clock
 pub mod Refusals
 pub mod Queue
-pub mod Calls
+pub mod Edges
+pub mod Submission
+pub mod Advance
+pub mod Cancel
 pub mod Questions
 pub mod Histories
+pub mod Told
 pub mod Unmoved
 pub mod Invariant
 pub mod Fair

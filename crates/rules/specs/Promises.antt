@@ -1,39 +1,82 @@
 -- What is promised of every history of calls on a fresh simulator, refused calls among them. (01, How far each contract reaches) Statements only.
 use Prim.Native.Nat.{ℕ}
 use mathlib.Core.Path.{_≡_}
-use mathlib.Core.List.{List}
+use mathlib.Core.Bool.{false}
+use mathlib.Core.List.{List, _++_}
 use lib.Dec.{T}
-use lib.Ieee.{Float}
+use lib.Ieee.{Float, binary64, fits}
+use Rattle.doubles.specs.Doubles.{_≺_, read-zero}
 use Rattle.rules.specs.declared.Owner.{Owner}
+use Rattle.rules.specs.declared.Cap.{Cap}
 use Rattle.rules.specs.declared.Flows.{Flows}
+use Rattle.rules.specs.declared.Call.{Call}
 use Rattle.rules.specs.Lists.{all}
-use Rattle.rules.specs.Records.{fresh}
-use Rattle.rules.specs.Queue.{take-completed, owners-with-completions}
-use Rattle.rules.specs.Calls.{advance}
-use Rattle.rules.specs.Histories.{Call, typed, call, run}
+use Rattle.rules.specs.Records.{fresh, path-of}
+use Rattle.rules.specs.Filling.{num-unfrozen, recompute-rates}
+use Rattle.rules.specs.Clock.{drain-to}
+use Rattle.rules.specs.Refusals.{ascending, not-a-time, short-buffer}
+use Rattle.rules.specs.Edges.{add-edge-causes, widen-causes}
+use Rattle.rules.specs.Submission.{submit-causes}
+use Rattle.rules.specs.Advance.{advance-causes}
+use Rattle.rules.specs.Questions.{estimate-causes, edge-causes, mean-causes}
+use Rattle.rules.specs.Histories.{call, zeros-read, Turn, typed, after, run}
 use Rattle.rules.specs.Invariant.{Invariant}
 use Rattle.rules.specs.Fair.{FairFilling}
 use Rattle.rules.specs.Tallies.{Tallied}
-use Rattle.rules.specs.Unmoved.{is-no, unmoved}
+use Rattle.rules.specs.Unmoved.{says-no, unmoved}
+
+-- ---- over every history
 
 -- The invariant holds after it.
 abbrev pub AlwaysSound : Type 0
-AlwaysSound = (calls : List Call) → T (all typed calls) → Invariant (run fresh calls)
-
--- Demand 3 holds of the filling of any simulator that keeps the invariant, and so of each filling in it.
-abbrev pub AlwaysFair : Type 0
-AlwaysFair = (f : Flows) → Invariant f → FairFilling f
+AlwaysSound = (turns : List Turn) → T (all typed turns) → Invariant (run fresh turns)
 
 -- For each kind of owner, what was submitted is in flight, completed or cancelled.
 abbrev pub AlwaysTallied : Type 0
-AlwaysTallied = (calls : List Call) → T (all typed calls) → (owner : Owner) → Tallied calls owner
+AlwaysTallied = (turns : List Turn) → T (all typed turns) → (owner : Owner) → Tallied turns owner
 
--- A call that is refused, an id that is unknown and a take with nothing waiting leave the simulator as it was.
+-- A fact of the simulator wherever a call may work its rates out: as it stands, and drained to any time that an advance or a submission may name.
+pub record WhereverFilled (P : Flows → Type 0) (f : Flows) : Type 0 where
+  pub as-it-stands : P f
+  pub drained : (to : Float) → T (fits binary64 to) → not-a-time to ≡ false → (to ≺ f .clock .now) ≡ false → P (drain-to (read-zero to) f)
+
+-- Demand 3, whenever rates are worked out.
+abbrev pub AlwaysFair : Type 0
+AlwaysFair = (turns : List Turn) → T (all typed turns) → WhereverFilled FairFilling (run fresh turns)
+
+-- A filling ends when none is unfrozen, though its definition has a bound on the rounds. (01, Filling)
+abbrev pub AllFrozen : Flows → Type 0
+AllFrozen f = num-unfrozen (recompute-rates (path-of f) (f .edges) (f .«in_flight»)) ≡ 0
+
+abbrev pub AlwaysEnds : Type 0
+AlwaysEnds = (turns : List Turn) → T (all typed turns) → WhereverFilled AllFrozen (run fresh turns)
+
+-- ---- over every simulator with the invariant, and so over every history
+
+-- Demand 3 holds of its filling.
+abbrev pub SoundFair : Type 0
+SoundFair = (f : Flows) → Invariant f → FairFilling f
+
+-- Each call with its zeros read is the same call. (01, Numbers)
+abbrev pub ZerosAreOne : Type 0
+ZerosAreOne = (c : Call) (path : List ℕ) (f : Flows) (buffer : List ℕ) → Invariant f → call (zeros-read c) path f buffer ≡ call c path f buffer
+
+-- ---- over every simulator at all
+
+-- A call that is refused, an id that is unknown and a take with nothing waiting leave the simulator as it was. (01, Numbers)
 abbrev pub RefusalsMoveNothing : Type 0
-RefusalsMoveNothing = (c : Call) (f : Flows) → T (unmoved c (call c f .said)) → call c f .flows ≡ f
+RefusalsMoveNothing = (t : Turn) (f : Flows) → T (unmoved (t .call) (after t f .made .said)) → after t f .made .flows ≡ f
 
--- A call that lists and says no leaves the buffer, whatever it holds, as it was.
-pub record RefusalsWriteNothing : Type 0 where
-  pub advancing : (until : Float) (f : Flows) (buffer : List ℕ) → T (is-no (advance until f buffer .outcome .answer)) → advance until f buffer .buffer ≡ buffer
-  pub collecting : (owner : Owner) (f : Flows) (buffer : List ℕ) → T (is-no (take-completed owner f buffer .outcome .answer)) → take-completed owner f buffer .buffer ≡ buffer
-  pub asking : (f : Flows) (buffer : List ℕ) → T (is-no (owners-with-completions f buffer .outcome .answer)) → owners-with-completions f buffer .buffer ≡ buffer
+-- And the lent buffer, whatever it holds. (01, Numbers)
+abbrev pub RefusalsWriteNothing : Type 0
+RefusalsWriteNothing = (t : Turn) (f : Flows) → T (says-no (after t f .made .said)) → after t f .buffer ≡ t .buffer
+
+-- The causes of each call ascend, so that the first that applies is the lowest. (01, Numbers)
+pub record CausesAscend : Type 0 where
+  pub add-edge : (capacity : Float) (f : Flows) → T (ascending (add-edge-causes capacity f))
+  pub widen : (e : ℕ) (amount : Float) (f : Flows) → T (ascending (widen-causes e amount f))
+  pub submit : (id : ℕ) (owner : Owner) (path : List ℕ) (bytes : ℕ) (latency : Float) (cap : Cap) (time : Float) (f : Flows) → T (ascending (submit-causes id owner path bytes latency cap time f))
+  pub advance : (time : Float) (n : ℕ) (f : Flows) (buffer : List ℕ) → T (ascending (advance-causes time f ++ short-buffer n buffer))
+  pub estimate : (path : List ℕ) (bytes latency : Float) (cap : Cap) (f : Flows) → T (ascending (estimate-causes path bytes latency cap f))
+  pub edge : (e : ℕ) (f : Flows) → T (ascending (edge-causes e f))
+  pub mean : (e : ℕ) (until : Float) (f : Flows) → T (ascending (mean-causes e until f))

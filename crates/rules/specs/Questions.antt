@@ -16,16 +16,15 @@ use Rattle.rules.specs.declared.EdgeRead.{EdgeRead}
 use Rattle.rules.specs.declared.EdgeRead.the-variants as EdgeRead-variants
 use Rattle.rules.specs.declared.Transfer.{Transfer}
 use Rattle.rules.specs.declared.Answer.{Answer}
-use Rattle.rules.specs.declared.Answer.the-variants.{Value, Wait, Unknown, Refused}
+use Rattle.rules.specs.declared.Answer.the-variants.{Value, Due, Unknown, Refused}
 use Rattle.rules.specs.declared.Outcome.{Outcome}
 use Rattle.rules.specs.declared.Flows.{Flows}
 use Rattle.rules.specs.Lists.{any}
-use Rattle.rules.specs.Records.{no-edge, path-of, of-id}
+use Rattle.rules.specs.Records.{blank-edge, path-of, of-id}
 use Rattle.rules.specs.Filling.{takes-part}
 use Rattle.rules.specs.Done.{done-eps, time-to-done}
-use Rattle.rules.specs.Clock.{crossings-by, ensure-rates}
-use Rattle.rules.specs.Refusals.{_when_, refusing, answering, not-finite, not-an-amount, not-a-cap, no-such-edge, too-long, read-cap}
-use Rattle.rules.specs.Calls.{drained-to-clock}
+use Rattle.rules.specs.Clock.{crossings-by, ensure-rates, drained-to-clock}
+use Rattle.rules.specs.Refusals.{Cause, _when_, refusing, answering, not-finite, not-an-amount, not-a-cap, no-such-edge, too-long, read-cap}
 
 -- ---- the next completion
 
@@ -36,22 +35,22 @@ delay-until now (At next) = After (larger (next ⊖ now) nought)
 
 -- The time to the next completion under rates brought up to date. (01, Questions)
 unfoldable pub next-completion-delay : Flows → Outcome
-next-completion-delay f = let g = ensure-rates f in answering (Wait (delay-until (g .clock .now) (g .clock .«next_done_at»))) g
+next-completion-delay f = let g = ensure-rates f in answering (Due (delay-until (g .clock .now) (g .clock .«next_done_at»))) g
 
 -- ---- estimates
 
 -- What one more transfer would get of edge e: its capacity over the crossings of those that take part, and one. (01, Questions)
 unfoldable pub new-share : Flows → ℕ → Float
-new-share f e = getD (f .edges) e no-edge .capacity ⊘ whole (crossings-by takes-part (path-of f) (f .«in_flight») e + 1)
+new-share f e = getD (f .edges) e blank-edge .capacity ⊘ whole (crossings-by takes-part (path-of f) (f .«in_flight») e + 1)
 
 -- The smallest such share along a path. (01, Questions)
 unfoldable pub path-share : Flows → List ℕ → Float
 path-share f path = foldl (λ least e. smaller least (new-share f e)) infinity path
 
 -- A share, or the cap if that is smaller. (01, Questions)
-unfoldable pub capped : Cap → Float → Float
-capped Uncapped share = share
-capped (AtMost c) share = smaller share c
+unfoldable pub share-or-cap : Cap → Float → Float
+share-or-cap Uncapped share = share
+share-or-cap (AtMost c) share = smaller share c
 
 -- The time over shared edges: endless where the share is nothing or endless itself. (01, Questions)
 unfoldable pub time-at-share : Float → Float → Float → Float
@@ -65,16 +64,20 @@ time-alone latency bytes (AtMost c) = cond (nought ≺ c) (latency ⊕ bytes ⊘
 -- The time by whether the path shares edges. (01, Questions)
 unfoldable pub estimate : Flows → List ℕ → Float → Float → Cap → Float
 estimate f [] bytes latency cap = time-alone latency bytes cap
-estimate f (e ∷ path) bytes latency cap = time-at-share latency bytes (capped cap (path-share f (e ∷ path)))
+estimate f (e ∷ path) bytes latency cap = time-at-share latency bytes (share-or-cap cap (path-share f (e ∷ path)))
+
+-- Why nothing is estimated. (01, Numbers)
+abbrev pub estimate-causes : List ℕ → Float → Float → Cap → Flows → List Cause
+estimate-causes path bytes latency cap f =
+    1 when (not-an-amount bytes || not-finite latency || not-a-cap cap)
+    ∷ 3 when any (no-such-edge f) path
+    ∷ 4 when too-long path
+    ∷ []
 
 -- The time that one more transfer would need as things stand: nothing is drained or filled for the question. (01, Questions)
 unfoldable pub estimate-new-capped : List ℕ → Float → Float → Cap → Flows → Answer
 estimate-new-capped path bytes latency cap f =
-    refusing
-    (1 when (not-an-amount bytes || not-finite latency || not-a-cap cap)
-    ∷ 3 when any (no-such-edge f) path
-    ∷ 4 when too-long path
-    ∷ []) Refused
+    refusing (estimate-causes path bytes latency cap f) Refused
     (Value (estimate f path (read-zero bytes) (larger (read-zero latency) nought) (read-cap cap)))
 
 -- The same without a cap. (01, Questions)
@@ -96,22 +99,30 @@ estimate-remaining id f = let g = ensure-rates (drained-to-clock f) in answering
 
 -- ---- edges
 
+-- Why an edge is not read. (01, Numbers)
+abbrev pub edge-causes : ℕ → Flows → List Cause
+edge-causes e f = 3 when no-such-edge f e ∷ []
+
 -- An edge by its number. (01, What is ported)
 unfoldable pub edge : ℕ → Flows → EdgeRead
-edge e f = refusing (3 when no-such-edge f e ∷ []) EdgeRead-variants.Refused (EdgeRead-variants.Found (getD (f .edges) e no-edge))
+edge e f = refusing (edge-causes e f) EdgeRead-variants.Refused (EdgeRead-variants.Found (getD (f .edges) e blank-edge))
 
 -- The mean of an edge's load from 0 to a time. (01, Questions)
 unfoldable pub mean-over : Float → Edge → Float
 mean-over until e = cond (nought ≺ until) (e .«busy_transfer_seconds» ⊘ until) nought
 
+-- Why there is no mean. (01, Numbers and Questions)
+abbrev pub mean-causes : ℕ → Float → Flows → List Cause
+mean-causes e until f =
+    1 when not-finite until
+    ∷ 3 when no-such-edge f e
+    ∷ []
+
 -- The mean of an edge's load, by its number. (01, Questions)
 unfoldable pub mean-in-flight : ℕ → Float → Flows → Answer
 mean-in-flight e until f =
-    refusing
-    (1 when not-finite until
-    ∷ 3 when no-such-edge f e
-    ∷ []) Refused
-    (Value (mean-over until (getD (f .edges) e no-edge)))
+    refusing (mean-causes e until f) Refused
+    (Value (mean-over until (getD (f .edges) e blank-edge)))
 
 -- ---- rates
 

@@ -39,8 +39,8 @@ max-slots = 256
 -- ---- blanks: what a place holds that nobody uses
 
 -- A place of the edge table beyond the last edge. (01, Sizes)
-abbrev pub no-edge : Edge
-no-edge = record { capacity = nought; «bytes_moved» = nought; «busy_transfer_seconds» = nought }
+abbrev pub blank-edge : Edge
+blank-edge = record { capacity = nought; «bytes_moved» = nought; «busy_transfer_seconds» = nought }
 
 -- A path in its eight places, zeros behind it. (01, Sizes)
 unfoldable pub route : List ℕ → Route
@@ -61,8 +61,8 @@ free = record {
 }
 
 -- A place of the queue beyond the last entry. (01, Sizes)
-abbrev pub no-completion : Completion
-no-completion = record { owner = Handoff; id = 0 }
+abbrev pub blank-completion : Completion
+blank-completion = record { owner = Handoff; id = 0 }
 
 -- Nothing counted yet. (01, Sizes)
 abbrev pub no-tally : Tally
@@ -71,10 +71,10 @@ no-tally = record { submitted = 0; completed = 0; cancelled = 0; «bytes_submitt
 -- The simulator before any call. (01, Sizes)
 abbrev pub fresh : Flows
 fresh = record {
-  edges = replicate max-edges no-edge;
+  edges = replicate max-edges blank-edge;
   «num_edges» = 0;
   «in_flight» = replicate max-slots free;
-  completed = replicate max-slots no-completion;
+  completed = replicate max-slots blank-completion;
   «num_completed» = 0;
   «edge_load» = record { load = replicate max-edges 0; len = 0 };
   clock = record { now = nought; «rates_dirty» = false; «next_done_at» = Nobody; rounds = 0 };
@@ -159,7 +159,7 @@ with-in-flight slots f = record { edges = f .edges; «num_edges» = f .«num_edg
 
 -- The queue, with every later place of its table blank.
 unfoldable pub with-waiting : List Completion → Flows → Flows
-with-waiting queue f = record { edges = f .edges; «num_edges» = f .«num_edges»; «in_flight» = f .«in_flight»; completed = queue ++ replicate (max-slots - length queue) no-completion; «num_completed» = length queue; «edge_load» = f .«edge_load»; clock = f .clock; totals = f .totals; tolerance = f .tolerance }
+with-waiting queue f = record { edges = f .edges; «num_edges» = f .«num_edges»; «in_flight» = f .«in_flight»; completed = queue ++ replicate (max-slots - length queue) blank-completion; «num_completed» = length queue; «edge_load» = f .«edge_load»; clock = f .clock; totals = f .totals; tolerance = f .tolerance }
 
 -- Another load table.
 unfoldable pub with-edge-load : EdgeLoad → Flows → Flows

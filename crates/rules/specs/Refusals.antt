@@ -1,6 +1,6 @@
 -- The numbers that a call can answer in place of its work, and their causes. (01, Numbers) Definitions only.
 use Prim.Native.Nat.{ℕ, _+_, _^_}
-use mathlib.Core.Bool.{Bool, not, _||_, false, cond}
+use mathlib.Core.Bool.{Bool, true, false, not, _&&_, _||_, cond}
 use mathlib.Core.List.{List, [], _∷_}
 use lib.Dec.{ltb, leb}
 use lib.ListN.{length}
@@ -25,6 +25,12 @@ pub data Cause : Type 0 where
 unfoldable pub refusing : {A : Type 0} → List Cause → (ℕ → A) → A → A
 refusing [] refused work = work
 refusing ((n when applies) ∷ causes) refused work = let later = refusing causes refused work in cond applies (refused n) later
+
+-- Whether the causes of a list stand by ascending number. (01, Numbers)
+unfoldable pub ascending : List Cause → Bool
+ascending [] = true
+ascending ((m when a) ∷ []) = true
+ascending ((m when a) ∷ (n when b) ∷ causes) = ltb m n && ascending ((n when b) ∷ causes)
 
 -- A simulator with an answer.
 abbrev pub answering : Answer → Flows → Outcome
@@ -77,6 +83,10 @@ too-long path = ltb max-path (length path)
 -- 7: no room for one more transfer beside those in flight and uncollected. (01, Numbers)
 unfoldable pub is-full : Flows → Bool
 is-full f = leb max-slots (num-in-flight f + f .«num_completed»)
+
+-- 8: a list of so many numbers in a buffer that is shorter. (01, Numbers)
+abbrev pub short-buffer : ℕ → List ℕ → List Cause
+short-buffer n buffer = 8 when ltb (length buffer) n ∷ []
 
 -- ---- arguments as read
 

@@ -6,12 +6,16 @@ use mathlib.Core.List.{List, [], _∷_, _++_, map, foldl}
 use lib.Dec.{eqb}
 use Rattle.rules.specs.declared.Owner.{Owner}
 use Rattle.rules.specs.declared.Answer.{Answer}
-use Rattle.rules.specs.declared.Answer.the-variants.{Done, Added, Listed, Nothing, Unknown, Value, Wait, Refused}
+use Rattle.rules.specs.declared.Answer.the-variants.{Done, Added, Listed, Nothing, Unknown, Value, Due, Refused}
 use Rattle.rules.specs.declared.Flows.{Flows}
+use Rattle.rules.specs.declared.Call.{Call}
+use Rattle.rules.specs.declared.Call.the-variants.{Advance, Submit, Cancel, AddEdge, Widen, TakeCompleted, OwnersWithCompletions, NextCompletionDelay, EstimateNew, EstimateRemaining, MeanInFlight, Rate, Edge, Contains, Rounds}
+use Rattle.rules.specs.declared.Said.{Said}
+use Rattle.rules.specs.declared.Said.the-variants as Said-variants
 use Rattle.rules.specs.Lists.{count, those}
 use Rattle.rules.specs.Records.{fresh, owner-kind, tally-of}
 use Rattle.rules.specs.Invariant.{of-kind}
-use Rattle.rules.specs.Histories.{Call, advance, submit, cancel, add-edge, widen, take-completed, owners-with-completions, next-completion-delay, estimate-new, estimate-remaining, mean-in-flight, rate, edge, contains, rounds, Said, said, listed, edge-read, truth, number, call, run}
+use Rattle.rules.specs.Histories.{Turn, after, run}
 
 -- A transfer as the calls name it: its id, and the number of its owner's kind.
 pub record Entry : Type 0 where
@@ -69,7 +73,7 @@ is-yes (Listed n) = false
 is-yes Nothing = false
 is-yes Unknown = false
 is-yes (Value x) = false
-is-yes (Wait d) = false
+is-yes (Due d) = false
 is-yes (Refused n) = false
 
 -- How many entries an answer says were listed.
@@ -80,51 +84,49 @@ list-length (Listed n) = n
 list-length Nothing = 0
 list-length Unknown = 0
 list-length (Value x) = 0
-list-length (Wait d) = 0
+list-length (Due d) = 0
 list-length (Refused n) = 0
 
 -- Whether a call said that its work was done.
 unfoldable pub says-done : Said → Bool
-says-done (said answer) = is-yes answer
-says-done (listed answer buffer) = false
-says-done (edge-read e) = false
-says-done (truth b) = false
-says-done (number n) = false
+says-done (Said-variants.Answered answer) = is-yes answer
+says-done (Said-variants.Edge e) = false
+says-done (Said-variants.Truth b) = false
+says-done (Said-variants.Number n) = false
 
--- The entries that a call listed.
-unfoldable pub said-entries : Said → List Entry
-said-entries (said answer) = []
-said-entries (listed answer buffer) = entries (list-length answer) buffer
-said-entries (edge-read e) = []
-said-entries (truth b) = []
-said-entries (number n) = []
+-- How many entries a call said that it listed.
+unfoldable pub says-listed : Said → ℕ
+says-listed (Said-variants.Answered answer) = list-length answer
+says-listed (Said-variants.Edge e) = 0
+says-listed (Said-variants.Truth b) = 0
+says-listed (Said-variants.Number n) = 0
 
--- A call and what it said, noted.
-unfoldable pub noted : Call → Said → Ledger → Ledger
-noted (submit id owner path bytes latency cap T) s l = cond (says-done s) (note-submitted id (owner-kind owner) l) l
-noted (cancel id) s l = cond (says-done s) (note-cancelled id l) l
-noted (advance size T) s l = foldl (λ m e. note-completed e m) l (said-entries s)
-noted (add-edge capacity) s l = l
-noted (widen e amount) s l = l
-noted (take-completed size owner) s l = l
-noted (owners-with-completions size) s l = l
-noted next-completion-delay s l = l
-noted (estimate-new path bytes latency cap) s l = l
-noted (estimate-remaining id) s l = l
-noted (mean-in-flight e until) s l = l
-noted (rate id) s l = l
-noted (edge e) s l = l
-noted (contains id) s l = l
-noted rounds s l = l
+-- A call, what it said and what its buffer then holds, noted.
+unfoldable pub noted : Call → Said → List ℕ → Ledger → Ledger
+noted (Submit s) said buffer l = cond (says-done said) (note-submitted (s .id) (owner-kind (s .owner)) l) l
+noted (Cancel id) said buffer l = cond (says-done said) (note-cancelled id l) l
+noted (Advance T) said buffer l = foldl (λ m e. note-completed e m) l (entries (says-listed said) buffer)
+noted (AddEdge capacity) said buffer l = l
+noted (Widen e amount) said buffer l = l
+noted (TakeCompleted owner) said buffer l = l
+noted OwnersWithCompletions said buffer l = l
+noted NextCompletionDelay said buffer l = l
+noted (EstimateNew e) said buffer l = l
+noted (EstimateRemaining id) said buffer l = l
+noted (MeanInFlight e until) said buffer l = l
+noted (Rate id) said buffer l = l
+noted (Edge e) said buffer l = l
+noted (Contains id) said buffer l = l
+noted Rounds said buffer l = l
 
--- What is noted of calls made in order.
-unfoldable pub notes : Flows → List Call → Ledger → Ledger
+-- What is noted of turns taken in order.
+unfoldable pub notes : Flows → List Turn → Ledger → Ledger
 notes f [] l = l
-notes f (c ∷ calls) l = let after = call c f in notes (after .flows) calls (noted c (after .said) l)
+notes f (t ∷ turns) l = let left = after t f in notes (left .made .flows) turns (noted (t .call) (left .made .said) (left .buffer) l)
 
--- All that is noted of calls on a fresh simulator.
-abbrev pub ledger : List Call → Ledger
-ledger calls = notes fresh calls nothing-noted
+-- All that is noted of turns on a fresh simulator.
+abbrev pub ledger : List Turn → Ledger
+ledger turns = notes fresh turns nothing-noted
 
 -- Whether a kind is the owner's.
 abbrev pub kind-of : Owner → ℕ → Bool
@@ -138,10 +140,10 @@ number-of owner kinds = count (kind-of owner) kinds
 abbrev pub open-of : Owner → List Entry → ℕ
 open-of owner entries = count (λ e. kind-of owner (e .kind)) entries
 
--- After any calls on a fresh simulator, for the kind of any owner: the notes balance, and the simulator's counters say what the notes say.
-pub record Tallied (calls : List Call) (owner : Owner) : Type 0 where
-  pub balance : number-of owner (ledger calls .submitted) ≡ open-of owner (ledger calls .in-flight) + number-of owner (ledger calls .completed) + number-of owner (ledger calls .cancelled)
-  pub submitted : tally-of owner (run fresh calls .totals) .submitted ≡ number-of owner (ledger calls .submitted)
-  pub completed : tally-of owner (run fresh calls .totals) .completed ≡ number-of owner (ledger calls .completed)
-  pub cancelled : tally-of owner (run fresh calls .totals) .cancelled ≡ number-of owner (ledger calls .cancelled)
-  pub in-flight : count (of-kind (owner-kind owner)) (run fresh calls .«in_flight») ≡ open-of owner (ledger calls .in-flight)
+-- After any turns on a fresh simulator, for the kind of any owner: the notes balance, and the simulator's counters say what the notes say.
+pub record Tallied (turns : List Turn) (owner : Owner) : Type 0 where
+  pub balance : number-of owner (ledger turns .submitted) ≡ open-of owner (ledger turns .in-flight) + number-of owner (ledger turns .completed) + number-of owner (ledger turns .cancelled)
+  pub submitted : tally-of owner (run fresh turns .totals) .submitted ≡ number-of owner (ledger turns .submitted)
+  pub completed : tally-of owner (run fresh turns .totals) .completed ≡ number-of owner (ledger turns .completed)
+  pub cancelled : tally-of owner (run fresh turns .totals) .cancelled ≡ number-of owner (ledger turns .cancelled)
+  pub in-flight : count (of-kind (owner-kind owner)) (run fresh turns .«in_flight») ≡ open-of owner (ledger turns .in-flight)

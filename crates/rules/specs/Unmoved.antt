@@ -1,10 +1,13 @@
 -- Which answers promise that nothing has changed. (01, Numbers) Definitions only.
 use mathlib.Core.Bool.{Bool, true, false}
 use Rattle.rules.specs.declared.Answer.{Answer}
-use Rattle.rules.specs.declared.Answer.the-variants.{Done, Added, Listed, Nothing, Unknown, Value, Wait, Refused}
-use Rattle.rules.specs.Histories.{Call, advance, submit, cancel, add-edge, widen, take-completed, owners-with-completions, next-completion-delay, estimate-new, estimate-remaining, mean-in-flight, rate, edge, contains, rounds, Said, said, listed, edge-read, truth, number}
+use Rattle.rules.specs.declared.Answer.the-variants.{Done, Added, Listed, Nothing, Unknown, Value, Due, Refused}
+use Rattle.rules.specs.declared.Call.{Call}
+use Rattle.rules.specs.declared.Call.the-variants.{Advance, Submit, Cancel, AddEdge, Widen, TakeCompleted, OwnersWithCompletions, NextCompletionDelay, EstimateNew, EstimateRemaining, MeanInFlight, Rate, Edge, Contains, Rounds}
+use Rattle.rules.specs.declared.Said.{Said}
+use Rattle.rules.specs.declared.Said.the-variants as Said-variants
 
--- A refusal, an unknown id, or nothing waiting.
+-- A refusal, an unknown id, or nothing waiting. (01, Numbers)
 unfoldable pub is-no : Answer → Bool
 is-no Done = false
 is-no (Added n) = false
@@ -12,31 +15,30 @@ is-no (Listed n) = false
 is-no Nothing = true
 is-no Unknown = true
 is-no (Value x) = false
-is-no (Wait d) = false
+is-no (Due d) = false
 is-no (Refused n) = true
 
--- The same of whatever was said.
+-- The same of whatever was said. (01, Numbers)
 unfoldable pub says-no : Said → Bool
-says-no (said answer) = is-no answer
-says-no (listed answer buffer) = is-no answer
-says-no (edge-read e) = false
-says-no (truth b) = false
-says-no (number n) = false
+says-no (Said-variants.Answered answer) = is-no answer
+says-no (Said-variants.Edge e) = false
+says-no (Said-variants.Truth b) = false
+says-no (Said-variants.Number n) = false
 
--- Whether a call with that answer is promised to have changed nothing. Asking for the rate of an unknown id still brings rates up to date.
+-- Whether a call with that answer is promised to have left the simulator as it was. Asking for the rate of an unknown id still brings rates up to date. (01, Numbers and Questions)
 unfoldable pub unmoved : Call → Said → Bool
-unmoved (advance size T) s = says-no s
-unmoved (submit id owner path bytes latency cap T) s = says-no s
-unmoved (cancel id) s = says-no s
-unmoved (add-edge capacity) s = says-no s
-unmoved (widen e amount) s = says-no s
-unmoved (take-completed size owner) s = says-no s
-unmoved (owners-with-completions size) s = true
-unmoved next-completion-delay s = false
-unmoved (estimate-new path bytes latency cap) s = true
-unmoved (estimate-remaining id) s = false
-unmoved (mean-in-flight e until) s = true
-unmoved (rate id) s = false
-unmoved (edge e) s = true
-unmoved (contains id) s = true
-unmoved rounds s = true
+unmoved (Advance T) s = says-no s
+unmoved (Submit submission) s = says-no s
+unmoved (Cancel id) s = says-no s
+unmoved (AddEdge capacity) s = says-no s
+unmoved (Widen e amount) s = says-no s
+unmoved (TakeCompleted owner) s = says-no s
+unmoved OwnersWithCompletions s = true
+unmoved NextCompletionDelay s = false
+unmoved (EstimateNew e) s = true
+unmoved (EstimateRemaining id) s = false
+unmoved (MeanInFlight e until) s = true
+unmoved (Rate id) s = false
+unmoved (Edge e) s = true
+unmoved (Contains id) s = true
+unmoved Rounds s = true

@@ -130,7 +130,7 @@ pub enum Answer {
     // A number of seconds, a rate or another double.
     Value(f64),
     // The time to the next completion.
-    Wait(Delay),
+    Due(Delay),
     // The number of the refusal, by document 01's table.
     Refused(u32),
 }
@@ -145,6 +145,56 @@ pub struct Outcome {
 pub enum EdgeRead {
     Found(Edge),
     Refused(u32),
+}
+
+// A submission as data. Its path is lent beside it.
+pub struct Submission {
+    pub id: u32,
+    pub owner: Owner,
+    pub bytes: u64,
+    pub latency: f64,
+    pub cap: Cap,
+    pub time: f64,
+}
+
+// An estimate as data. Its path is lent beside it.
+pub struct Estimate {
+    pub bytes: f64,
+    pub latency: f64,
+    pub cap: Cap,
+}
+
+// A call or a question as data, with its arguments; a path and a buffer are lent beside it.
+pub enum Call {
+    Advance(f64),
+    Submit(Submission),
+    Cancel(u32),
+    AddEdge(f64),
+    Widen(u32, f64),
+    TakeCompleted(Owner),
+    OwnersWithCompletions,
+    NextCompletionDelay,
+    EstimateNew(Estimate),
+    EstimateRemaining(u32),
+    MeanInFlight(u32, f64),
+    Rate(u32),
+    Edge(u32),
+    Contains(u32),
+    Rounds,
+}
+
+// What a call or a question gives back, in whichever form it does.
+pub enum Said {
+    Answered(Answer),
+    Edge(EdgeRead),
+    Truth(bool),
+    Number(usize),
+}
+
+// What was said, and the simulator then.
+pub struct Made {
+    pub said: Said,
+    pub flows: Flows,
 }
 
 // A slot during a filling: the transfer with its rate so far, and whether a round has yet to freeze it.

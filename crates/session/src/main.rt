@@ -1,13 +1,13 @@
 // Reads a script of calls, from the file that its argument names or from standard input, makes each on the simulator and prints the answers.
-mod made;
-
 ghost use Prim.Native.Nat.{_≤_};
+ghost use mathlib.Core.Path.{_≡_};
 ghost use lib.ListN.{length};
+ghost use Rattle.rules.specs.Histories.{call as the-call};
 ghost use Rattle.rules.specs.Invariant.{Invariant};
 use asked::Ask;
-use asked::Call;
-use asked::Listing;
 use libc::STDIN_FILENO;
+use pages::put_text;
+use rules::Call;
 use rules::Flows;
 use words::Line;
 
@@ -17,11 +17,11 @@ struct Next {
     at: usize,
 }
 
-// What is kept between two reads: the simulator, the line so far, the place on the page, and whether there is more to read.
+// What is kept between two reads: the simulator, the line so far, whether anything was read yet, and whether there is more to read.
 struct Between {
     flows: Flows,
     line: Line,
-    at: usize,
+    begun: bool,
     more: bool,
 }
 
@@ -54,7 +54,7 @@ fn run_script(fd: i32, name: &[u8]) {
     let mut now = Between {
         flows,
         line,
-        at: 0,
+        begun: false,
         more: true,
     };
     let mut turns = u64::MAX;
@@ -65,11 +65,11 @@ fn run_script(fd: i32, name: &[u8]) {
     }
     let flows = now.flows;
     let line = now.line;
-    let last = ended(flows, line, &text, &mut page, now.at);
+    let last = ended(flows, line, &text, &mut page, 0);
     fields::write_out(&page, last.at);
 }
 
-// Reads once, and answers every line that ends in what was read.
+// Reads once, answers every line that ends in what was read, and writes the answers out before it is waited for more.
 fn chunk(
     now: Between,
     fd: i32,
@@ -78,9 +78,9 @@ fn chunk(
     page: &mut [u8; 65536],
 ) -> Between
     requires { ⌜ Invariant (now .flows) ⌝ }
-    requires { ⌜ (now .line .len ≤ 4096) × (now .at ≤ 65536) ⌝ }
+    requires { ⌜ now .line .len ≤ 4096 ⌝ }
     ensures { λ r. ⌜ Invariant (r .flows) ⌝ }
-    ensures { λ r. ⌜ (r .line .len ≤ 4096) × (r .at ≤ 65536) ⌝ }
+    ensures { λ r. ⌜ r .line .len ≤ 4096 ⌝ }
 {
     let mut buffer = io::large_buffer();
     let got = libc::read(fd, &mut buffer);
@@ -94,22 +94,39 @@ fn chunk(
         return Between {
             flows,
             line,
-            at: now.at,
+            begun: true,
             more: false,
         };
     }
-    lines(now, &buffer[..n], text, page)
+    let start = unmarked(&buffer[..n], now.begun);
+    lines(now, &buffer[start..n], text, page)
+}
+
+// Where the text starts: behind a byte order mark, where the very first bytes are one.
+fn unmarked(bytes: &[u8], begun: bool) -> usize
+    ensures { λ r. ⌜ r ≤ length (now (bytes .entry)) ⌝ }
+{
+    if begun {
+        return 0;
+    }
+    if bytes.len() < 3 {
+        return 0;
+    }
+    if check::same(&bytes[..3], b"\xef\xbb\xbf") {
+        return 3;
+    }
+    0
 }
 
 fn lines(now: Between, bytes: &[u8], text: &mut [u8; 4096], page: &mut [u8; 65536]) -> Between
     requires { ⌜ Invariant (now .flows) ⌝ }
-    requires { ⌜ (now .line .len ≤ 4096) × (now .at ≤ 65536) ⌝ }
+    requires { ⌜ now .line .len ≤ 4096 ⌝ }
     ensures { λ r. ⌜ Invariant (r .flows) ⌝ }
-    ensures { λ r. ⌜ (r .line .len ≤ 4096) × (r .at ≤ 65536) ⌝ }
+    ensures { λ r. ⌜ r .line .len ≤ 4096 ⌝ }
 {
     let mut flows = now.flows;
     let mut line = now.line;
-    let mut at = now.at;
+    let mut at = 0;
     let mut i = 0;
     while i < bytes.len() {
         let end = bytes::scan::find(bytes, i, bytes.len(), b'\n');
@@ -125,10 +142,11 @@ fn lines(now: Between, bytes: &[u8], text: &mut [u8; 4096], page: &mut [u8; 6553
         line = Line::new();
         i = start;
     }
+    fields::write_out(page, at);
     Between {
         flows,
         line,
-        at,
+        begun: true,
         more: true,
     }
 }
@@ -161,7 +179,7 @@ fn ended(flows: Flows, line: Line, text: &[u8; 4096], page: &mut [u8; 65536], at
     }
     let at = fields::room(page, at);
     if line.long {
-        let at = pages::put_text(page, at, b"malformed\n");
+        let at = put_text(page, at, b"malformed\n");
         return Next { flows, at };
     }
     answered(flows, text, len, page, at)
@@ -179,55 +197,61 @@ fn answered(flows: Flows, text: &[u8], len: usize, page: &mut [u8; 65536], at: u
     let ask = request.ask;
     match ask {
         Ask::Malformed => {
-            let at = pages::put_text(page, at, b"malformed\n");
+            let at = put_text(page, at, b"malformed\n");
             Next { flows, at }
+        }
+        Ask::New => {
+            let at = put_text(page, at, b"done\n");
+            let flows = Flows::new();
+            Next { flows, at }
+        }
+        Ask::Make(call) => {
+            let hops = request.hops;
+            let places = request.places;
+            let mut lent = [0xa5a5_a5a5u32; 1024];
+            made(flows, call, &path[..hops], &mut lent[..places], page, at)
+        }
+        Ask::RunUntil(time) => {
+            let walked = stepping::run_until(flows, time, page, at);
+            let flows = walked.flows;
+            Next {
+                flows,
+                at: walked.at,
+            }
+        }
+        Ask::Finish => {
+            let walked = stepping::finish(flows, page, at);
+            let flows = walked.flows;
+            Next {
+                flows,
+                at: walked.at,
+            }
         }
         Ask::See(look) => {
             let at = told::look(flows, look, page, at);
             Next { flows, at }
         }
-        Ask::Act(call) => {
-            let hops = request.hops;
-            acted(flows, call, &path[..hops], page, at)
-        }
-        Ask::List(listing) => {
-            let places = request.places;
-            let mut lent = [0xa5a5_a5a5u32; 1024];
-            listed(flows, listing, &mut lent[..places], page, at)
-        }
     }
 }
 
-// A call made and answered, its path cut to its length.
-fn acted(flows: Flows, call: Call, path: &[u32], page: &mut [u8; 65536], at: usize) -> Next
-    requires { ⌜ Invariant flows ⌝ }
-    requires { ⌜ at ≤ 49152 ⌝ }
-    ensures { λ r. ⌜ Invariant (r .flows) ⌝ }
-    ensures { λ r. ⌜ r .at ≤ 65536 ⌝ }
-{
-    let done = made::made(flows, call, path);
-    let answer = done.answer;
-    let at = told::answer(answer, page, at);
-    let flows = done.flows;
-    Next { flows, at }
-}
-
-// A call that lists made and answered, its buffer cut to its length.
-fn listed(
+// A call made and told, its path and its buffer cut to their lengths.
+fn made(
     flows: Flows,
-    listing: Listing,
+    call: Call,
+    path: &[u32],
     lent: &mut [u32],
     page: &mut [u8; 65536],
     at: usize,
 ) -> Next
     requires { ⌜ Invariant flows ⌝ }
     requires { ⌜ (length (now lent) ≤ 1024) × (at ≤ 49152) ⌝ }
-    ensures { λ r. ⌜ Invariant (r .flows) ⌝ }
-    ensures { λ r. ⌜ r .at ≤ 65536 ⌝ }
+    ensures exactly { λ r. ⌜ r .flows ≡ the-call call (now (path .entry)) flows (now (lent .entry)) .made .flows ⌝ }
+    ensures sound { λ r. ⌜ Invariant (r .flows) ⌝ }
+    ensures within { λ r. ⌜ r .at ≤ 65536 ⌝ }
 {
-    let done = made::listed(flows, listing, lent);
-    let answer = done.answer;
-    let at = told::listed(answer, made::width(listing), lent, page, at);
-    let flows = done.flows;
+    let made = flows::make(flows, call, path, lent);
+    let said = made.said;
+    let at = told::said(said, told::width(call), lent, page, at);
+    let flows = made.flows;
     Next { flows, at }
 }

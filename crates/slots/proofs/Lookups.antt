@@ -7,7 +7,7 @@ use native.Mathlib.Numerals.{add-one}
 use lib.ListN.{length, drop, getD, set}
 use Rattle.rules.specs.declared.Transfer.{Transfer}
 use Rattle.rules.specs.Records.{has-id}
-use Rattle.rules.specs.Calls.{placed}
+use Rattle.rules.specs.Submission.{placed}
 use Rattle.rules.proofs.Steps.{drop-one}
 use Rattle.slots.specs.declared.Lookup.the-variants.{Slot}
 use Rattle.slots.specs.Lookup.{lookup-from, first-free}

@@ -9,7 +9,7 @@ use Rattle.rules.specs.declared.Flows.{Flows}
 use Rattle.rules.specs.Records.{contains, tally-of, with-in-flight, made-stale, on-tally}
 use Rattle.rules.specs.Clock.{drain-to}
 use Rattle.rules.specs.Refusals.{_when_, refusing, answering, refused, is-full}
-use Rattle.rules.specs.Calls.{placed, count-submitted, peak-taken}
+use Rattle.rules.specs.Submission.{placed, count-submitted, peak-taken}
 
 -- In the lowest free slot, and the peak after it.
 unfoldable pub inserted : Transfer → Flows → Flows

@@ -10,7 +10,7 @@ ghost use Prim.Native.Nat.{_≤_};
 ghost use lib.ListN.{length};
 ghost use Rattle.doubles.specs.Doubles.{read-zero};
 ghost use Rattle.rules.specs.Refusals.{not-finite, not-a-cap, not-a-time, read-cap};
-ghost use Rattle.rules.specs.Calls.{submitted-transfer, submit-capped, submit};
+ghost use Rattle.rules.specs.Submission.{submitted-transfer, submit-capped, submit};
 ghost use Rattle.rules.specs.Invariant.{Invariant};
 
 // A transfer starts, with no cap of its own.
@@ -21,13 +21,13 @@ pub fn submit(
     path: &[u32],
     bytes: u64,
     latency: f64,
-    until: f64,
+    time: f64,
 ) -> Outcome
     requires { ⌜ Invariant flows ⌝ }
-    ensures exactly { λ r. ⌜ r ≡ submit id owner (now (path .entry)) bytes latency until flows ⌝ }
+    ensures exactly { λ r. ⌜ r ≡ submit id owner (now (path .entry)) bytes latency time flows ⌝ }
     ensures sound { λ r. ⌜ Invariant (r .flows) ⌝ }
 {
-    submit_capped(flows, id, owner, path, bytes, latency, Cap::Uncapped, until)
+    submit_capped(flows, id, owner, path, bytes, latency, Cap::Uncapped, time)
 }
 
 // A transfer starts, with or without a cap of its own. What is wrong with the arguments is asked here, and of the tables by `starting::start`.
@@ -39,16 +39,16 @@ pub fn submit_capped(
     bytes: u64,
     latency: f64,
     rate_cap: Cap,
-    until: f64,
+    time: f64,
 ) -> Outcome
     requires { ⌜ Invariant flows ⌝ }
-    ensures exactly { λ r. ⌜ r ≡ submit-capped id owner (now (path .entry)) bytes latency «rate_cap» until flows ⌝ }
+    ensures exactly { λ r. ⌜ r ≡ submit-capped id owner (now (path .entry)) bytes latency «rate_cap» time flows ⌝ }
     ensures sound { λ r. ⌜ Invariant (r .flows) ⌝ }
 {
-    if not_numbers(latency, rate_cap, until) {
+    if not_numbers(latency, rate_cap, time) {
         return starting::refused(flows, 1);
     }
-    if until < flows.clock.now {
+    if time < flows.clock.now {
         return starting::refused(flows, 2);
     }
     if arguments::names_no_edge(path, flows.num_edges) {
@@ -60,13 +60,13 @@ pub fn submit_capped(
     if 9007199254740992 < bytes {
         return starting::refused(flows, 5);
     }
-    let transfer = submitted_transfer(id, owner, path, bytes, latency, rate_cap, until);
+    let transfer = submitted_transfer(id, owner, path, bytes, latency, rate_cap, time);
     starting::start(flows, transfer, bytes)
 }
 
 // Whether one of the numbers cannot be taken.
-fn not_numbers(latency: f64, rate_cap: Cap, until: f64) -> bool
-    ensures { λ r. ⌜ r ≡ (not-finite latency || not-a-cap «rate_cap» || not-a-time until) ⌝ }
+fn not_numbers(latency: f64, rate_cap: Cap, time: f64) -> bool
+    ensures { λ r. ⌜ r ≡ (not-finite latency || not-a-cap «rate_cap» || not-a-time time) ⌝ }
 {
     if arguments::not_finite(latency) {
         return true;
@@ -74,7 +74,7 @@ fn not_numbers(latency: f64, rate_cap: Cap, until: f64) -> bool
     if arguments::not_a_cap(rate_cap) {
         return true;
     }
-    arguments::not_a_time(until)
+    arguments::not_a_time(time)
 }
 
 // The transfer as it is put into its slot: no bytes flow before a filling, and it has been drained up to its own time.
@@ -85,10 +85,10 @@ fn submitted_transfer(
     bytes: u64,
     latency: f64,
     rate_cap: Cap,
-    until: f64,
+    time: f64,
 ) -> Transfer
     requires { ⌜ length (now path) ≤ 8 ⌝ }
-    ensures { λ r. ⌜ r ≡ submitted-transfer id owner (now (path .entry)) bytes (read-zero latency) (read-cap «rate_cap») (read-zero until) ⌝ }
+    ensures { λ r. ⌜ r ≡ submitted-transfer id owner (now (path .entry)) bytes (read-zero latency) (read-cap «rate_cap») (read-zero time) ⌝ }
 {
     let route = arguments::route_of(path);
     let cap = arguments::read_cap(rate_cap);
@@ -101,6 +101,6 @@ fn submitted_transfer(
         bytes_remaining: doubles::whole(bytes),
         rate_cap: cap,
         rate: 0.0,
-        last_update: doubles::read_zero(until),
+        last_update: doubles::read_zero(time),
     }
 }

@@ -6,7 +6,9 @@ use rules::Totals;
 ghost use Prim.Native.Nat.{_<_, _^_, _+_};
 ghost use mathlib.Core.Path.{_≡_};
 ghost use Rattle.rules.specs.Records.{tally-of, on-tally};
-ghost use Rattle.rules.specs.Calls.{count-submitted, count-completed, count-cancelled};
+ghost use Rattle.rules.specs.Submission.{count-submitted};
+ghost use Rattle.rules.specs.Advance.{count-completed};
+ghost use Rattle.rules.specs.Cancel.{count-cancelled};
 
 // What has been counted of the owner's kind.
 pub fn tally_of(totals: Totals, owner: Owner) -> Tally

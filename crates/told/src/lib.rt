@@ -1,8 +1,9 @@
 // Answers as text, one line each: a double by its bits, with a remark in decimal for people where one can be made.
 ghost use Prim.Native.Nat.{_+_, _*_, _≤_};
+ghost use mathlib.Core.Path.{_≡_};
 ghost use lib.ListN.{length};
 ghost use Rattle.rules.specs.Invariant.{Invariant};
-ghost use Rattle.flows.specs.Fits.{Fits};
+ghost use Rattle.flows.specs.Fits.{width-of, Fits, FitsSaid};
 use asked::Look;
 use dumps::dump;
 use fields::named;
@@ -15,15 +16,51 @@ use pages::put_fixed;
 use pages::put_text;
 use pages::readable;
 use rules::Answer;
+use rules::Call;
 use rules::Delay;
 use rules::Edge;
 use rules::EdgeRead;
 use rules::Flows;
+use rules::Said;
 
 // ---- calls
 
-// The answer to a call that was lent no buffer.
-pub fn answer(answer: Answer, page: &mut [u8; 65536], at: usize) -> usize
+// What a call said, so many numbers an entry where it lists, with what became of its buffer.
+pub fn said(said: Said, width: usize, lent: &[u32], page: &mut [u8; 65536], at: usize) -> usize
+    requires { ⌜ FitsSaid width (length (now lent)) said ⌝ }
+    requires { ⌜ (length (now lent) ≤ 1024) × (at ≤ 49152) ⌝ }
+    ensures { λ r. ⌜ r ≤ 65536 ⌝ }
+{
+    match said {
+        Said::Answered(answer) => listed(answer, width, lent, page, at),
+        Said::Edge(read) => edge_read(page, at, read),
+        Said::Truth(yes) => truth(page, at, yes),
+        Said::Number(n) => numbered(page, at, b"number", n as u64),
+    }
+}
+
+fn edge_read(page: &mut [u8; 65536], at: usize, read: EdgeRead) -> usize
+    requires { ⌜ at ≤ 49152 ⌝ }
+    ensures { λ r. ⌜ r ≤ 65536 ⌝ }
+{
+    match read {
+        EdgeRead::Found(edge) => edge_line(page, at, edge),
+        EdgeRead::Refused(n) => numbered(page, at, b"refused", n as u64),
+    }
+}
+
+fn truth(page: &mut [u8; 65536], at: usize, yes: bool) -> usize
+    requires { ⌜ at ≤ 49152 ⌝ }
+    ensures { λ r. ⌜ r ≤ 65536 ⌝ }
+{
+    if yes {
+        return put_text(page, at, b"yes\n");
+    }
+    put_text(page, at, b"no\n")
+}
+
+// An answer that lists nothing.
+fn answer(answer: Answer, page: &mut [u8; 65536], at: usize) -> usize
     requires { ⌜ at ≤ 49152 ⌝ }
     ensures { λ r. ⌜ r ≤ 65536 ⌝ }
 {
@@ -34,13 +71,13 @@ pub fn answer(answer: Answer, page: &mut [u8; 65536], at: usize) -> usize
         Answer::Nothing => put_text(page, at, b"nothing\n"),
         Answer::Unknown => put_text(page, at, b"unknown\n"),
         Answer::Value(x) => valued(page, at, b"value ", x),
-        Answer::Wait(delay) => waiting(page, at, delay),
+        Answer::Due(delay) => due(page, at, delay),
         Answer::Refused(n) => numbered(page, at, b"refused", n as u64),
     }
 }
 
-// The answer to a call that lists, so many numbers an entry, with what became of its buffer.
-pub fn listed(said: Answer, width: usize, lent: &[u32], page: &mut [u8; 65536], at: usize) -> usize
+// An answer, with the list and what became of the buffer where it was lent one.
+fn listed(said: Answer, width: usize, lent: &[u32], page: &mut [u8; 65536], at: usize) -> usize
     requires { ⌜ Fits width (length (now lent)) said ⌝ }
     requires { ⌜ (length (now lent) ≤ 1024) × (at ≤ 49152) ⌝ }
     ensures { λ r. ⌜ r ≤ 65536 ⌝ }
@@ -87,7 +124,8 @@ fn list(page: &mut [u8; 65536], at: usize, n: usize, width: usize, lent: &[u32])
     put_text(page, next, b" tail-changed\n")
 }
 
-fn entries(page: &mut [u8; 65536], at: usize, list: &[u32]) -> usize
+// The numbers of a list, each with a blank in front.
+pub fn entries(page: &mut [u8; 65536], at: usize, list: &[u32]) -> usize
     requires { ⌜ (length (now list) ≤ 1024) × (at ≤ 50000) ⌝ }
     ensures { λ r. ⌜ r ≤ 65000 ⌝ }
 {
@@ -113,7 +151,7 @@ fn untouched(lent: &[u32], from: usize) -> bool {
     true
 }
 
-fn waiting(page: &mut [u8; 65536], at: usize, delay: Delay) -> usize
+fn due(page: &mut [u8; 65536], at: usize, delay: Delay) -> usize
     requires { ⌜ at ≤ 49152 ⌝ }
     ensures { λ r. ⌜ r ≤ 65536 ⌝ }
 {
@@ -123,27 +161,39 @@ fn waiting(page: &mut [u8; 65536], at: usize, delay: Delay) -> usize
     }
 }
 
+// How many numbers an entry of a call's list has; 0 where it lists nothing.
+pub fn width(call: Call) -> usize
+    ensures { λ r. ⌜ r ≡ width-of call ⌝ }
+{
+    match call {
+        Call::Advance(_) => 3,
+        Call::Submit(_) => 0,
+        Call::Cancel(_) => 0,
+        Call::AddEdge(_) => 0,
+        Call::Widen(_, _) => 0,
+        Call::TakeCompleted(_) => 1,
+        Call::OwnersWithCompletions => 2,
+        Call::NextCompletionDelay => 0,
+        Call::EstimateNew(_) => 0,
+        Call::EstimateRemaining(_) => 0,
+        Call::MeanInFlight(_, _) => 0,
+        Call::Rate(_) => 0,
+        Call::Edge(_) => 0,
+        Call::Contains(_) => 0,
+        Call::Rounds => 0,
+    }
+}
+
 // ---- looks
 
+// What is told of the state as it stands.
 pub fn look(flows: Flows, look: Look, page: &mut [u8; 65536], at: usize) -> usize
     requires { ⌜ Invariant flows ⌝ }
     requires { ⌜ at ≤ 49152 ⌝ }
     ensures { λ r. ⌜ r ≤ 65536 ⌝ }
 {
     match look {
-        Look::Rounds => numbered(page, at, b"number", flows::rounds(flows) as u64),
-        Look::Contains(id) => {
-            if flows::contains(flows, id) {
-                put_text(page, at, b"yes\n")
-            } else {
-                put_text(page, at, b"no\n")
-            }
-        }
         Look::Now => valued(page, at, b"value ", flows::now(flows)),
-        Look::Edge(e) => match flows::edge(flows, e) {
-            EdgeRead::Found(edge) => edge_line(page, at, edge),
-            EdgeRead::Refused(n) => numbered(page, at, b"refused", n as u64),
-        },
         Look::Counts => counts(flows, page, at),
         Look::Dump => dump(flows, page, at),
     }
@@ -224,10 +274,18 @@ fn valued(page: &mut [u8; 65536], at: usize, name: &[u8], x: f64) -> usize
 {
     let next = put_text(page, at, name);
     let next = put_double(page, next, x);
-    if readable(x) {
-        let next = put_text(page, next, b" # ");
-        let next = put_fixed(page, next, x);
-        return put_text(page, next, b"\n");
-    }
+    let next = remark(page, next, x);
     put_text(page, next, b"\n")
+}
+
+// A double in decimal for people, where that can be read.
+pub fn remark(page: &mut [u8; 65536], at: usize, x: f64) -> usize
+    requires { ⌜ at ≤ 65400 ⌝ }
+    ensures { λ r. ⌜ r ≤ at + 60 ⌝ }
+{
+    if !readable(x) {
+        return at;
+    }
+    let next = put_text(page, at, b" # ");
+    put_fixed(page, next, x)
 }

@@ -6,7 +6,7 @@ use lib.Ieee.{Float}
 use Rattle.advance.proofs.Advanced.{advance-no-time, advance-early, advance-still, advance-lists, advance-sound, quiet-fresh}
 use Rattle.doubles.specs.Doubles.{read-zero}
 use Rattle.keeps.proofs.Arguments.{time-clock, time-no-earlier}
-use Rattle.rules.specs.Calls.{quiet, advance}
+use Rattle.rules.specs.Advance.{quiet, advance}
 use Rattle.rules.specs.Refusals.{not-a-time}
 use Rattle.advance.proofs.advance.Statement.{statement}
 use Rattle.advance.proofs.advance.Tie as tie
@@ -52,8 +52,8 @@ returns-3 c =
     let exactly : c .still .result ≡ advance until flows out .outcome = rw (e, ← c .before .before .before .read-zero .ensures) (c .still .ensures) in
     (exactly, (rw e refl, advance-sound until flows out (search needs) (start .pre) exactly))
 
-listing-requires : tie.Need-listing-requires
-listing-requires c κs =
+list-done-requires : tie.Need-list-done-requires
+list-done-requires c κs =
     let start = c .before .before .before .before .before .before .before .before .before .before in
     let until = start .args .until in
     let time : not-a-time until ≡ false = sym (c .before .before .before .before .before .before .before .not-a-time .ensures) ∙ c .before .before .before .before .before .if1 .left in
@@ -71,8 +71,8 @@ returns-4 c =
     let time : not-a-time until ≡ false = sym (c .before .before .before .before .before .before .before .before .before .before .not-a-time .ensures) ∙ c .before .before .before .before .before .before .before .before .if1 .left in
     let loud : quiet (read-zero until) flows ≡ false = ap (λ (u : Float). quiet u flows) (sym (c .before .before .before .before .before .before .read-zero .ensures)) ∙ sym (c .before .before .before .before .before .quiet .ensures) ∙ c .before .before .before .before .if3 .left in
     let e = advance-lists until flows out time (c .before .before .before .before .before .before .before .if2 .left) loud in
-    let exactly : c .before .before .listing .result ≡ advance until flows out .outcome = rw (e, ← c .before .before .before .before .before .before .read-zero .ensures) (c .before .before .listing .ensures .0) in
-    (exactly, (rw (e, ← c .before .before .before .before .before .before .read-zero .ensures) (c .before .before .listing .ensures .1), advance-sound until flows out (search needs) (start .pre) exactly))
+    let exactly : c .before .before .list-done .result ≡ advance until flows out .outcome = rw (e, ← c .before .before .before .before .before .before .read-zero .ensures) (c .before .before .list-done .ensures .0) in
+    (exactly, (rw (e, ← c .before .before .before .before .before .before .read-zero .ensures) (c .before .before .list-done .ensures .1), advance-sound until flows out (search needs) (start .pre) exactly))
 
 pub advance-spec : {M : Type 1} → statement M
 advance-spec =
@@ -85,6 +85,6 @@ advance-spec =
     quiet-requires
     still-requires
     returns-3
-    listing-requires
+    list-done-requires
     same-length
     returns-4)

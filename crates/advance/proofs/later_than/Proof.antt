@@ -1,6 +1,6 @@
 -- `later_than` is its definition, variant by variant. Assumes nothing.
 use borrow.Author.Needs.{needs}
-use Rattle.rules.specs.Calls.{later-than}
+use Rattle.rules.specs.Advance.{later-than}
 use Rattle.advance.proofs.later_than.Statement.{statement}
 use Rattle.advance.proofs.later_than.Tie as tie
 

@@ -2,7 +2,7 @@
 use borrow.Author.Needs.{needs}
 use native.Mathlib.Omega.{arith}
 use Rattle.advance.proofs.Arrived.{fresh-number}
-use Rattle.rules.specs.Calls.{quiet}
+use Rattle.rules.specs.Advance.{quiet}
 use Rattle.advance.proofs.quiet.Statement.{statement}
 use Rattle.advance.proofs.quiet.Tie as tie
 

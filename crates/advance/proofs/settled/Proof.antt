@@ -1,9 +1,8 @@
 -- `settled` drains and then brings rates up to date, which moves nobody. Assumes nothing.
 use borrow.Author.Needs.{needs}
 use mathlib.Core.Path.{_≡_, ap, _∙_}
-use Rattle.rules.specs.Clock.{ensure-rates}
+use Rattle.rules.specs.Clock.{ensure-rates, settled}
 use Rattle.advance.proofs.Arrived.{settled-at}
-use Rattle.advance.specs.Settled.{settled}
 use Rattle.advance.proofs.settled.Statement.{statement}
 use Rattle.advance.proofs.settled.Tie as tie
 
@@ -14,7 +13,6 @@ ensure-rates-requires : tie.Need-ensure-rates-requires
 ensure-rates-requires c κs = search needs
 
 returns : tie.Need-returns
-unfolding settled
 returns c =
     let args = c .before .before .args in
     let e : c .ensure-rates .result ≡ settled (args .until) (args .flows) = c .ensure-rates .ensures .0 ∙ ap ensure-rates (c .before .drain-to .ensures .0) in

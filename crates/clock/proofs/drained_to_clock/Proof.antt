@@ -1,6 +1,6 @@
 -- `drained_to_clock` drains to the time that it is, which is a clock time and no earlier. Assumes nothing.
 use Rattle.keeps.proofs.Arguments.{le-itself}
-use Rattle.rules.specs.Calls.{drained-to-clock}
+use Rattle.rules.specs.Clock.{drained-to-clock}
 use Rattle.clock.proofs.drained_to_clock.Statement.{statement}
 use Rattle.clock.proofs.drained_to_clock.Tie as tie
 

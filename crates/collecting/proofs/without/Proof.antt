@@ -9,7 +9,7 @@ use lib.ListN.{length, take, drop, length-set}
 use Rattle.rules.specs.declared.Owner.{Owner}
 use Rattle.rules.specs.declared.Completion.{Completion}
 use Rattle.rules.specs.Lists.{those, write-front}
-use Rattle.rules.specs.Records.{no-completion}
+use Rattle.rules.specs.Records.{blank-completion}
 use Rattle.rules.specs.Queue.{belongs}
 use Rattle.queue.specs.Tables.{table-of}
 use Rattle.rules.proofs.Fronts.{written, written-none, written-one, written-blank}
@@ -82,7 +82,7 @@ returns c =
     let over = those-none (λ d. not (belongs (c .before .before .args .owner) d)) (c .before .before .args .t1) (c .before .before .args .n) (c .before .loop .i) (omega arith) in
     let all : c .before .loop .k ≡ length (others (c .before .before .args .owner) (take (c .before .before .args .n) (c .before .before .args .t1))) = omega (arith, ap length over) in
     let kept : c .before .loop .entries ≡ write-front (others (c .before .before .args .owner) (take (c .before .before .args .n) (c .before .before .args .t1))) _ = sym (written-none (c .before .loop .k) (c .before .loop .entries)) ∙ (rw over at (c .before .loop .inv .4)) in
-    rw (kept, written-blank 256 no-completion (others (c .before .before .args .owner) (take (c .before .before .args .n) (c .before .before .args .t1))), ← all) refl
+    rw (kept, written-blank 256 blank-completion (others (c .before .before .args .owner) (take (c .before .before .args .n) (c .before .before .args .t1))), ← all) refl
 
 pub without-spec : {M : Type 1} → statement M
 without-spec =

@@ -5,7 +5,7 @@ use borrow.Author.Tests.{le-leb, lt-leb}
 use mathlib.Core.Path.{sym, _∙_}
 use Rattle.rules.specs.Records.{with-edges}
 use Rattle.rules.specs.Refusals.{refusing}
-use Rattle.rules.specs.Calls.{add-edge}
+use Rattle.rules.specs.Edges.{add-edge}
 use Rattle.keeps.proofs.Calls.{add-edge-keeps}
 use Rattle.edits.proofs.Kept.{kept}
 use Rattle.edits.proofs.Changed.{edge-added-is}

@@ -5,7 +5,7 @@ use mathlib.Core.Path.{sym, ap, _∙_}
 use lib.ListN.{getD}
 use Rattle.rules.specs.declared.Flows.{Flows}
 use Rattle.rules.specs.Records.{free, contains, tally-of, with-in-flight}
-use Rattle.rules.specs.Calls.{cancel}
+use Rattle.rules.specs.Cancel.{cancel}
 use Rattle.rules.proofs.Steps.{getD-any}
 use Rattle.slots.proofs.Found.{nowhere, somewhere}
 use Rattle.keeps.proofs.Calls.{cancel-keeps}

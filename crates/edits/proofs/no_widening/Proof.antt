@@ -4,8 +4,8 @@ use native.Mathlib.Omega.{arith}
 use mathlib.Core.Path.{sym, _∙_}
 use borrow.Author.Tests.{le-leb, lt-leb}
 use Rattle.rules.specs.Refusals.{no-such-edge}
-use Rattle.rules.specs.Calls.{wider, no-widening}
-use Rattle.rules.specs.Records.{no-edge}
+use Rattle.rules.specs.Edges.{wider, no-widening}
+use Rattle.rules.specs.Records.{blank-edge}
 use Rattle.rules.proofs.Steps.{getD-any}
 use Rattle.edits.proofs.no_widening.Statement.{statement}
 use Rattle.edits.proofs.no_widening.Tie as tie
@@ -33,7 +33,7 @@ not-an-amount-requires c κs = search needs
 returns-3 : tie.Need-returns-3
 unfolding no-widening no-such-edge wider
 returns-3 c =
-    let told = rw (getD-any (c .before .before .before .before .before .before .args .flows .edges) (c .before .before .before .before .before .before .args .e) _ no-edge (omega arith)) at (c .not-an-amount .ensures) in
+    let told = rw (getD-any (c .before .before .before .before .before .before .args .flows .edges) (c .before .before .before .before .before .before .args .e) _ blank-edge (omega arith)) at (c .not-an-amount .ensures) in
     rw (sym (c .before .before .before .before .before .not-finite .ensures) ∙ c .before .before .before .before .if1 .left, lt-leb (c .before .before .before .before .before .before .args .flows .«num_edges») (c .before .before .before .before .before .before .args .e) (omega arith), told)
 
 pub no-widening-spec : {M : Type 1} → statement M

@@ -19,14 +19,14 @@ path-share-requires : tie.Need-path-share-requires
 unfolding counts
 path-share-requires c κs = (c .before .before .before .before .pre .0, (rw (c .loads-of .ensures), c .before .before .before .before .pre .1))
 
-capped-requires : tie.Need-capped-requires
-capped-requires c κs = search needs
+share-or-cap-requires : tie.Need-share-or-cap-requires
+share-or-cap-requires c κs = search needs
 
 time-at-share-requires : tie.Need-time-at-share-requires
 time-at-share-requires c κs = search needs
 
 returns-2 : tie.Need-returns-2
-returns-2 c = rw (c .time-at-share .ensures, c .before .capped .ensures, c .before .before .path-share .ensures, over-some (c .before .before .before .before .before .before .before .args .flows) (c .before .before .before .before .before .before .before .args .bytes) (c .before .before .before .before .before .before .before .args .latency) (c .before .before .before .before .before .before .before .args .cap) (c .before .before .before .before .before .before .before .args .path .now) (c .before .before .before .before .before .if1 .left))
+returns-2 c = rw (c .time-at-share .ensures, c .before .share-or-cap .ensures, c .before .before .path-share .ensures, over-some (c .before .before .before .before .before .before .before .args .flows) (c .before .before .before .before .before .before .before .args .bytes) (c .before .before .before .before .before .before .before .args .latency) (c .before .before .before .before .before .before .before .args .cap) (c .before .before .before .before .before .before .before .args .path .now) (c .before .before .before .before .before .if1 .left))
 
 pub estimate-spec : {M : Type 1} → statement M
 estimate-spec =
@@ -36,6 +36,6 @@ estimate-spec =
     returns
     loads-of-requires
     path-share-requires
-    capped-requires
+    share-or-cap-requires
     time-at-share-requires
     returns-2)

@@ -8,7 +8,7 @@ use native.Mathlib.Omega.{arith}
 use Rattle.doubles.specs.Doubles.{smaller}
 use Rattle.estimates.proofs.Shares.{share-by, least-by, least-share}
 use Rattle.rules.proofs.Steps.{foldl-one, getD-any}
-use Rattle.rules.specs.Records.{no-edge}
+use Rattle.rules.specs.Records.{blank-edge}
 use Rattle.rules.specs.Filling.{takes-part}
 use Rattle.crossings.proofs.Loads.{loads-bound}
 use Rattle.rules.proofs.Routes.{all-room}
@@ -68,7 +68,7 @@ loop-again c =
     let known : getD path (c .before .before .before .before .before .before .loop .i) 0 < 64 = c .before .before .before .before .before .before .before .before .before .pre .1 .1 .below (c .before .before .before .before .before .before .loop .i) (omega arith) in
     let inside : getD path (c .before .before .before .before .before .before .loop .i) 0 < length edges = omega arith in
     let ahead : c .before .before .before .before .before .before .loop .i < length path = omega arith in
-    (omega arith, rw (c .smaller .ensures, c .before .new-share .ensures, c .before .before .before .wide .ensures, ← getD-any edges (getD path (c .before .before .before .before .before .before .loop .i) 0) no-edge, ← c .before .before .before .before .before .before .loop .inv .1, foldl-one path (c .before .before .before .before .before .before .loop .i) 0 ahead (λ least e. smaller least (share-by edges load e)) (c .before .before .before .before .before .before .loop .share)))
+    (omega arith, rw (c .smaller .ensures, c .before .new-share .ensures, c .before .before .before .wide .ensures, ← getD-any edges (getD path (c .before .before .before .before .before .before .loop .i) 0) blank-edge, ← c .before .before .before .before .before .before .loop .inv .1, foldl-one path (c .before .before .before .before .before .before .loop .i) 0 ahead (λ least e. smaller least (share-by edges load e)) (c .before .before .before .before .before .before .loop .share)))
 
 returns : tie.Need-returns Inv-loop μ-loop
 unfolding div ofBits

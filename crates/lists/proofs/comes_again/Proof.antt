@@ -1,7 +1,7 @@
 -- `comes_again` looks at the next entry alone, which is enough in a table that is in order. Assumes nothing.
 use mathlib.Core.Path.{sym, _∙_}
 use native.Mathlib.Omega.{arith}
-use Rattle.rules.specs.Records.{no-completion}
+use Rattle.rules.specs.Records.{blank-completion}
 use Rattle.rules.proofs.Steps.{getD-any}
 use Rattle.queue.proofs.Taken.{past-end}
 use Rattle.lists.proofs.Adjacent.{comes-again, comes-last}
@@ -32,7 +32,7 @@ same-owner-requires c κs = search needs
 
 returns-2 : tie.Need-returns-2
 returns-2 c =
-    rw (getD-any (c .before .before .before .before .args .t1) (c .before .before .before .before .args .i) no-completion past-end (omega arith))
+    rw (getD-any (c .before .before .before .before .args .t1) (c .before .before .before .before .args .i) blank-completion past-end (omega arith))
     (c .same-owner .ensures ∙ sym (comes-again (c .before .before .before .before .args .t1) (c .before .before .before .before .args .n) (c .before .before .before .before .args .i) past-end (c .before .before .before .before .pre .1 .1) (omega arith) (omega arith)))
 
 pub comes-again-spec : {M : Type 1} → statement M

@@ -8,7 +8,7 @@ use native.Mathlib.Omega.{arith}
 use borrow.Author.Tests.{not-true, not-false}
 use lib.ListN.{length, take, drop}
 use Rattle.rules.specs.Queue.{owners}
-use Rattle.rules.specs.Records.{no-completion}
+use Rattle.rules.specs.Records.{blank-completion}
 use Rattle.lists.proofs.Adjacent.{owners-by, owners-none}
 use borrow.Author.Needs.{needs}
 use Rattle.lists.proofs.num_owners.Statement.{statement}
@@ -39,10 +39,10 @@ loop-again : tie.Need-loop-again Inv-loop μ-loop
 loop-again c =
     ⊎-elim
     (λ w.
-    let one = owners-by (c .before .before .before .before .args .completed) (c .before .before .before .before .args .n) (c .before .before .before .loop .i) no-completion false (sym (c .before .comes-again .ensures) ∙ not-true _ (w .0 .taken)) (omega arith) (omega arith) in
+    let one = owners-by (c .before .before .before .before .args .completed) (c .before .before .before .before .args .n) (c .before .before .before .loop .i) blank-completion false (sym (c .before .comes-again .ensures) ∙ not-true _ (w .0 .taken)) (omega arith) (omega arith) in
     (omega arith, omega (arith, w .1), omega (arith, w .1, ap length one)))
     (λ w.
-    let none = owners-by (c .before .before .before .before .args .completed) (c .before .before .before .before .args .n) (c .before .before .before .loop .i) no-completion true (sym (c .before .comes-again .ensures) ∙ not-false _ (w .0 .left)) (omega arith) (omega arith) in
+    let none = owners-by (c .before .before .before .before .args .completed) (c .before .before .before .before .args .n) (c .before .before .before .loop .i) blank-completion true (sym (c .before .comes-again .ensures) ∙ not-false _ (w .0 .left)) (omega arith) (omega arith) in
     (omega arith, omega (arith, w .1), omega (arith, w .1, ap length none)))
     (c .if1 .came)
 

@@ -8,7 +8,7 @@ use native.Mathlib.Omega.{arith}
 use borrow.Author.Tests.{not-true, not-false}
 use lib.ListN.{length, take, drop, length-set}
 use Rattle.rules.specs.Lists.{write-front}
-use Rattle.rules.specs.Records.{no-completion}
+use Rattle.rules.specs.Records.{blank-completion}
 use Rattle.rules.specs.Queue.{owners, pairs}
 use Rattle.rules.proofs.Fronts.{written, written-none, written-two}
 use Rattle.rules.proofs.Steps.{getD-any}
@@ -47,7 +47,7 @@ mul-out c = search needs
 
 slice-write-out : tie.Need-slice-write-out Inv-loop μ-loop
 slice-write-out c =
-    let one = owners-by (c .before .before .before .before .before .before .before .before .args .t1) (c .before .before .before .before .before .before .before .before .args .n) (c .before .before .before .before .before .before .loop .i) no-completion false (sym (c .before .before .before .before .comes-again .ensures) ∙ not-true _ (c .before .before .before .if1 .taken)) (omega arith) (omega arith) in
+    let one = owners-by (c .before .before .before .before .before .before .before .before .args .t1) (c .before .before .before .before .before .before .before .before .args .n) (c .before .before .before .before .before .before .loop .i) blank-completion false (sym (c .before .before .before .before .comes-again .ensures) ∙ not-true _ (c .before .before .before .if1 .taken)) (omega arith) (omega arith) in
     omega (arith, ap length one)
 
 add-out : tie.Need-add-out Inv-loop μ-loop
@@ -58,7 +58,7 @@ mul-out-2 c = search needs
 
 slice-write-out-2 : tie.Need-slice-write-out-2 Inv-loop μ-loop
 slice-write-out-2 c =
-    let one = owners-by (c .before .before .before .before .before .before .before .before .args .t1) (c .before .before .before .before .before .before .before .before .args .n) (c .before .before .before .before .before .before .loop .i) no-completion false (sym (c .before .before .before .before .comes-again .ensures) ∙ not-true _ (c .before .before .before .if1 .taken)) (omega arith) (omega arith) in
+    let one = owners-by (c .before .before .before .before .before .before .before .before .args .t1) (c .before .before .before .before .before .before .before .before .args .n) (c .before .before .before .before .before .before .loop .i) blank-completion false (sym (c .before .before .before .before .comes-again .ensures) ∙ not-true _ (c .before .before .before .if1 .taken)) (omega arith) (omega arith) in
     simp length-set (omega (arith, ap length one))
 
 add-k : tie.Need-add-k Inv-loop μ-loop
@@ -75,7 +75,7 @@ unfolding pairs
 loop-again c =
     ⊎-elim
     (λ w.
-    let one = owners-by (c .before .before .before .before .before .args .t1) (c .before .before .before .before .before .args .n) (c .before .before .before .loop .i) past-end false (rw (getD-any (c .before .before .before .before .before .args .t1) (c .before .before .before .loop .i) past-end no-completion (omega arith)) (sym (c .before .comes-again .ensures) ∙ not-true _ (w .0 .taken))) (omega arith) (omega arith) in
+    let one = owners-by (c .before .before .before .before .before .args .t1) (c .before .before .before .before .before .args .n) (c .before .before .before .loop .i) past-end false (rw (getD-any (c .before .before .before .before .before .args .t1) (c .before .before .before .loop .i) past-end blank-completion (omega arith)) (sym (c .before .comes-again .ensures) ∙ not-true _ (w .0 .taken))) (omega arith) (omega arith) in
     let room : c .before .before .before .loop .k + 1 < length (c .before .before .before .loop .out) = omega (arith, ap length one) in (
       omega arith,
       omega (arith, w .5),
@@ -84,7 +84,7 @@ loop-again c =
       rw (w .4, w .5, written-two, ← c .before .before .before .loop .inv .4, one, ← w .2 .ensures, ← w .3 .ensures) refl,
     ))
     (λ w.
-    let none = owners-by (c .before .before .before .before .before .args .t1) (c .before .before .before .before .before .args .n) (c .before .before .before .loop .i) no-completion true (sym (c .before .comes-again .ensures) ∙ not-false _ (w .0 .left)) (omega arith) (omega arith) in (
+    let none = owners-by (c .before .before .before .before .before .args .t1) (c .before .before .before .before .before .args .n) (c .before .before .before .loop .i) blank-completion true (sym (c .before .comes-again .ensures) ∙ not-false _ (w .0 .left)) (omega arith) (omega arith) in (
       omega arith,
       omega (arith, w .2),
       rw (w .1) (c .before .before .before .loop .inv .2),

@@ -5,7 +5,7 @@ use native.Mathlib.Omega.{arith}
 use Rattle.questions.proofs.There.{there}
 use Rattle.rules.proofs.Steps.{getD-any}
 use Rattle.rules.specs.Questions.{edge}
-use Rattle.rules.specs.Records.{no-edge}
+use Rattle.rules.specs.Records.{blank-edge}
 use Rattle.rules.specs.Refusals.{refusing}
 use Rattle.questions.proofs.edge.Statement.{statement}
 use Rattle.questions.proofs.edge.Tie as tie
@@ -30,7 +30,7 @@ returns-2 : tie.Need-returns-2
 unfolding edge refusing
 returns-2 c =
     let inside = there (c .before .before .before .before .before .pre) (c .before .before .before .before .before .args .edge) (sym (c .before .before .before .before .no-such-edge .ensures) ∙ c .before .before .before .if1 .left) in
-    rw (← c .before .before .before .before .no-such-edge .ensures, c .before .before .before .if1 .left, c .before .before .wide .ensures, ← getD-any (c .before .before .before .before .before .args .flows .edges) (c .before .before .before .before .before .args .edge) no-edge)
+    rw (← c .before .before .before .before .no-such-edge .ensures, c .before .before .before .if1 .left, c .before .before .wide .ensures, ← getD-any (c .before .before .before .before .before .args .flows .edges) (c .before .before .before .before .before .args .edge) blank-edge)
 
 pub edge-spec : {M : Type 1} → statement M
 edge-spec =

@@ -5,7 +5,7 @@ use native.Mathlib.Omega.{arith}
 use Rattle.questions.proofs.There.{there}
 use Rattle.rules.proofs.Steps.{getD-any}
 use Rattle.rules.specs.Questions.{mean-in-flight}
-use Rattle.rules.specs.Records.{no-edge}
+use Rattle.rules.specs.Records.{blank-edge}
 use Rattle.rules.specs.Refusals.{refusing}
 use Rattle.questions.proofs.mean_in_flight.Statement.{statement}
 use Rattle.questions.proofs.mean_in_flight.Tie as tie
@@ -40,7 +40,7 @@ returns-3 : tie.Need-returns-3
 unfolding mean-in-flight refusing
 returns-3 c =
     let inside = there (c .before .before .before .before .before .before .before .before .pre) (c .before .before .before .before .before .before .before .before .args .edge) (sym (c .before .before .before .before .before .before .no-such-edge .ensures) ∙ c .before .before .before .before .if2 .left) in
-    rw (← c .before .before .before .before .before .before .before .not-finite .ensures, ← c .before .before .before .before .before .before .no-such-edge .ensures, c .before .before .before .before .before .if1 .left, c .before .before .before .before .if2 .left, c .mean-over .ensures, c .before .before .before .wide .ensures, ← getD-any (c .before .before .before .before .before .before .before .before .args .flows .edges) (c .before .before .before .before .before .before .before .before .args .edge) no-edge)
+    rw (← c .before .before .before .before .before .before .before .not-finite .ensures, ← c .before .before .before .before .before .before .no-such-edge .ensures, c .before .before .before .before .before .if1 .left, c .before .before .before .before .if2 .left, c .mean-over .ensures, c .before .before .before .wide .ensures, ← getD-any (c .before .before .before .before .before .before .before .before .args .flows .edges) (c .before .before .before .before .before .before .before .before .args .edge) blank-edge)
 
 pub mean-in-flight-spec : {M : Type 1} → statement M
 mean-in-flight-spec =

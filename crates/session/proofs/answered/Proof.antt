@@ -33,35 +33,53 @@ slice-aggregate-put-text c = search needs
 put-text-requires : tie.Need-put-text-requires
 put-text-requires c κs = search needs
 
+enum-told-2 : tie.Need-enum-told-2
+enum-told-2 c = search needs
+
+slice-aggregate-put-text-2 : tie.Need-slice-aggregate-put-text-2
+slice-aggregate-put-text-2 c = search needs
+
+put-text-requires-2 : tie.Need-put-text-requires-2
+put-text-requires-2 c κs = search needs
+
+new-requires : tie.Need-new-requires
+new-requires c κs = search needs
+
 enum-known-ask : tie.Need-enum-known-ask
 enum-known-ask c = search needs
-
-look-requires : tie.Need-look-requires
-look-requires c κs = search needs
-
-enum-known-ask-2 : tie.Need-enum-known-ask-2
-enum-known-ask-2 c = search needs
 
 array-share-prefix-path : tie.Need-array-share-prefix-path
 array-share-prefix-path c = search needs
 
-slice-aggregate-acted : tie.Need-slice-aggregate-acted
-slice-aggregate-acted c = simp length-take (omega (arith, c .before .before .before .before .before .read .kept .1 .0, c .before .before .before .before .before .read .ensures .0))
-
-acted-requires : tie.Need-acted-requires
-acted-requires c κs = search needs
-
-enum-known-ask-3 : tie.Need-enum-known-ask-3
-enum-known-ask-3 c = search needs
+slice-aggregate-made : tie.Need-slice-aggregate-made
+slice-aggregate-made c = simp length-take (omega (arith, c .before .before .before .before .before .read .kept .1 .0, c .before .before .before .before .before .read .ensures .0))
 
 array-borrow-prefix-lent : tie.Need-array-borrow-prefix-lent
 array-borrow-prefix-lent c = search needs
 
-slice-aggregate-listed : tie.Need-slice-aggregate-listed
-slice-aggregate-listed c = part _ (c .before .before .before .before .before .read .ensures .1)
+slice-aggregate-made-2 : tie.Need-slice-aggregate-made-2
+slice-aggregate-made-2 c = part _ (c .before .before .before .before .before .before .read .ensures .1)
 
-listed-requires : tie.Need-listed-requires
-listed-requires c κs = (search needs, (within (c .before .before .before .before .before .before .read .result .places), search needs))
+made-requires : tie.Need-made-requires
+made-requires c κs = (search needs, (within (c .before .before .before .before .before .before .before .read .result .places), search needs))
+
+enum-known-ask-2 : tie.Need-enum-known-ask-2
+enum-known-ask-2 c = search needs
+
+run-until-requires : tie.Need-run-until-requires
+run-until-requires c κs = search needs
+
+enum-told-3 : tie.Need-enum-told-3
+enum-told-3 c = search needs
+
+finish-requires : tie.Need-finish-requires
+finish-requires c κs = search needs
+
+enum-known-ask-3 : tie.Need-enum-known-ask-3
+enum-known-ask-3 c = search needs
+
+look-requires : tie.Need-look-requires
+look-requires c κs = search needs
 
 returns : tie.Need-returns
 returns c = search needs
@@ -75,6 +93,12 @@ returns-3 c = search needs
 returns-4 : tie.Need-returns-4
 returns-4 c = search needs
 
+returns-5 : tie.Need-returns-5
+returns-5 c = search needs
+
+returns-6 : tie.Need-returns-6
+returns-6 c = search needs
+
 pub answered-spec : {M : Type 1} → statement M
 answered-spec =
     tie.close
@@ -85,17 +109,25 @@ answered-spec =
     enum-told
     slice-aggregate-put-text
     put-text-requires
+    enum-told-2
+    slice-aggregate-put-text-2
+    put-text-requires-2
+    new-requires
     enum-known-ask
-    look-requires
-    enum-known-ask-2
     array-share-prefix-path
-    slice-aggregate-acted
-    acted-requires
-    enum-known-ask-3
+    slice-aggregate-made
     array-borrow-prefix-lent
-    slice-aggregate-listed
-    listed-requires
+    slice-aggregate-made-2
+    made-requires
+    enum-known-ask-2
+    run-until-requires
+    enum-told-3
+    finish-requires
+    enum-known-ask-3
+    look-requires
     returns
     returns-2
     returns-3
-    returns-4)
+    returns-4
+    returns-5
+    returns-6)

@@ -1,4 +1,5 @@
 -- `session::lines` meets its contract: each turn passes the end of a line, or the end of what was read. Assumes nothing.
+use mathlib.Core.Logic.{inl, inr}
 use Prim.Native.Nat.{_-_, _≤_}
 use lib.ListN.{length}
 use Rattle.rules.specs.Invariant.{Invariant}
@@ -45,11 +46,13 @@ loop-less c = search needs
 loop-again : tie.Need-loop-again Inv-loop μ-loop
 loop-again c = search needs
 
-returns : tie.Need-returns Inv-loop μ-loop
-returns c = search needs
+write-out-requires : tie.Need-write-out-requires Inv-loop μ-loop
+write-out-requires c κs = search needs
 
-returns-2 : tie.Need-returns-2 Inv-loop μ-loop
-returns-2 c = search needs
+returns : tie.Need-returns Inv-loop μ-loop
+returns c =
+    let inv = c .before .before .before .loop .inv in
+    (inv .0, elim (c .before .before .loop-test .came) [ inl (test, text, line) ↦ rw line (inv .1) | inr (test, find, from, to, gathered, last, text, line) ↦ rw line (gathered .ensures) ])
 
 pub lines-spec : {M : Type 1} → statement M
 lines-spec =
@@ -68,5 +71,5 @@ lines-spec =
     new-requires
     loop-less
     loop-again
-    returns
-    returns-2)
+    write-out-requires
+    returns)

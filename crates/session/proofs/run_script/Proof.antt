@@ -6,7 +6,7 @@ use Rattle.session.proofs.run_script.Statement.{statement}
 use Rattle.session.proofs.run_script.Tie as tie
 
 abbrev Inv-loop : tie.InvT-loop
-Inv-loop fd name text₀ page₀ now₀ turns₀ text page now turns = Invariant (now .flows) × (now .line .len ≤ 4096) × (now .at ≤ 65536)
+Inv-loop fd name text₀ page₀ now₀ turns₀ text page now turns = Invariant (now .flows) × (now .line .len ≤ 4096)
 
 abbrev μ-loop : tie.MeasureT-loop
 μ-loop fd name text₀ page₀ now₀ turns₀ text page now turns = turns

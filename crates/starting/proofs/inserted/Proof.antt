@@ -5,7 +5,7 @@ use native.Mathlib.Omega.{arith}
 use mathlib.Core.Path.{_≡_}
 use lib.ListN.{set}
 use Rattle.rules.specs.Lists.{count}
-use Rattle.rules.specs.Calls.{peak-taken}
+use Rattle.rules.specs.Submission.{peak-taken}
 use Rattle.rules.specs.Records.{num-in-flight, with-in-flight, with-totals}
 use Rattle.slots.proofs.Lookups.{placed-is}
 use Rattle.starting.specs.Started.{inserted}

@@ -5,7 +5,7 @@ use mathlib.Core.Path.{_≡_, ap, _∙_}
 use Rattle.rules.specs.declared.Tally.{Tally}
 use Rattle.rules.specs.declared.Flows.{Flows}
 use Rattle.rules.specs.Records.{num-in-flight, tally-of, on-tally}
-use Rattle.rules.specs.Calls.{count-submitted}
+use Rattle.rules.specs.Submission.{count-submitted}
 use Rattle.starting.proofs.Unmoved.{still-counted, still-in-flight, counted-in-flight}
 use Rattle.starting.specs.Started.{started}
 use Rattle.starting.proofs.started.Statement.{statement}

@@ -1,6 +1,6 @@
 -- `submit` is a capped submission with no cap. Assumes nothing.
 use borrow.Author.Needs.{needs}
-use Rattle.rules.specs.Calls.{submit}
+use Rattle.rules.specs.Submission.{submit}
 use Rattle.submission.proofs.submit.Statement.{statement}
 use Rattle.submission.proofs.submit.Tie as tie
 

@@ -13,7 +13,7 @@ use Rattle.doubles.specs.Doubles.{read-zero}
 use Rattle.keeps.proofs.Arguments.{time-clock, time-no-earlier}
 use Rattle.keeps.proofs.Calls.{submit-capped-keeps}
 use Rattle.keeps.proofs.Refusing.{neither}
-use Rattle.rules.specs.Calls.{submitted-transfer, submit-capped, submitted}
+use Rattle.rules.specs.Submission.{submitted-transfer, submit-capped, submitted}
 use Rattle.rules.specs.Refusals.{refusing, not-finite, not-a-cap, not-a-time, no-such-edge, too-long}
 use Rattle.submission.proofs.Typed.{cap-typed}
 use Rattle.starting.specs.Started.{inserted, started, start}
@@ -118,11 +118,11 @@ start-requires : tie.Need-start-requires
 unfolding submitted-transfer
 start-requires c κs =
     let entry = c .before .before .before .before .before .before .before .before .before .before in
-    let until = entry .args .until in
-    let typed : T (fits binary64 until) = search needs in
-    let time = neither (not-finite (entry .args .latency) || not-a-cap (entry .args .rate-cap)) (not-a-time until) (sym (c .before .before .before .before .before .before .before .before .not-numbers .ensures) ∙ c .before .before .before .before .before .before .before .if1 .left) .1 in
-    let own-time : c .submitted-transfer .result .«last_update» ≡ read-zero until = rw (c .submitted-transfer .ensures) in
-    rw own-time (entry .pre, (time-clock until typed time, time-no-earlier until typed time (entry .pre .clock .plain) (c .before .before .before .before .before .if2 .left)))
+    let at = entry .args .time in
+    let typed : T (fits binary64 at) = search needs in
+    let time = neither (not-finite (entry .args .latency) || not-a-cap (entry .args .rate-cap)) (not-a-time at) (sym (c .before .before .before .before .before .before .before .before .not-numbers .ensures) ∙ c .before .before .before .before .before .before .before .if1 .left) .1 in
+    let own-time : c .submitted-transfer .result .«last_update» ≡ read-zero at = rw (c .submitted-transfer .ensures) in
+    rw own-time (entry .pre, (time-clock at typed time, time-no-earlier at typed time (entry .pre .clock .plain) (c .before .before .before .before .before .if2 .left)))
 
 returns-6 : tie.Need-returns-6
 unfolding submit-capped refusing no-such-edge too-long submitted start started inserted submitted-transfer
@@ -130,7 +130,7 @@ returns-6 c =
     let entry = c .before .before .before .before .before .before .before .before .before .before .before in
     let a = entry .args in
     let good = entry .good .1 .1 .1 .1 .1 in
-    let is : c .start .result ≡ submit-capped (a .id) (a .owner) (a .path .now) (a .bytes) (a .latency) (a .rate-cap) (a .until) (a .flows) =
+    let is : c .start .result ≡ submit-capped (a .id) (a .owner) (a .path .now) (a .bytes) (a .latency) (a .rate-cap) (a .time) (a .flows) =
     rw (
       c .start .ensures,
       c .before .submitted-transfer .ensures,
@@ -142,7 +142,7 @@ returns-6 c =
       le-ltb 8 (length (entry .args .path .now)) (omega (arith, c .before .before .before .if4 .left)),
       le-ltb (2 ^ 53) (entry .args .bytes) (omega (arith, c .before .before .if5 .left)),
     ) in
-    (is, rw is (submit-capped-keeps (a .id) (a .owner) (a .path .now) (a .bytes) (a .latency) (a .rate-cap) (a .until) (a .flows) (passes _ (good .0 .1)) (cap-typed _ _ (good .1 .0)) (passes _ (good .1 .1 .0 .1)) (entry .pre)))
+    (is, rw is (submit-capped-keeps (a .id) (a .owner) (a .path .now) (a .bytes) (a .latency) (a .rate-cap) (a .time) (a .flows) (passes _ (good .0 .1)) (cap-typed _ _ (good .1 .0)) (passes _ (good .1 .1 .0 .1)) (entry .pre)))
 
 pub submit-capped-spec : {M : Type 1} → statement M
 submit-capped-spec =

@@ -1,6 +1,6 @@
 -- `submitted_transfer` fills in each field as read. Assumes nothing.
 use borrow.Author.Needs.{needs}
-use Rattle.rules.specs.Calls.{submitted-transfer}
+use Rattle.rules.specs.Submission.{submitted-transfer}
 use Rattle.submission.proofs.submitted_transfer.Statement.{statement}
 use Rattle.submission.proofs.submitted_transfer.Tie as tie
 

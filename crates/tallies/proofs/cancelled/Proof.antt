@@ -1,7 +1,7 @@
 -- `cancelled` counts on what it read of the kind. Assumes nothing.
 use native.Mathlib.Omega.{arith}
 use borrow.Author.Needs.{needs}
-use Rattle.rules.specs.Calls.{count-cancelled}
+use Rattle.rules.specs.Cancel.{count-cancelled}
 use Rattle.tallies.proofs.Known.{changed-tally}
 use Rattle.tallies.proofs.cancelled.Statement.{statement}
 use Rattle.tallies.proofs.cancelled.Tie as tie

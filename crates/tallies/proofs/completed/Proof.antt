@@ -1,7 +1,7 @@
 -- `completed` counts on what it read of the kind. Assumes nothing.
 use native.Mathlib.Omega.{arith}
 use borrow.Author.Needs.{needs}
-use Rattle.rules.specs.Calls.{count-completed}
+use Rattle.rules.specs.Advance.{count-completed}
 use Rattle.tallies.proofs.Known.{changed-tally}
 use Rattle.tallies.proofs.completed.Statement.{statement}
 use Rattle.tallies.proofs.completed.Tie as tie

@@ -1,7 +1,7 @@
 -- `submitted` counts on what it read of the kind. Assumes nothing.
 use native.Mathlib.Omega.{arith}
 use borrow.Author.Needs.{needs}
-use Rattle.rules.specs.Calls.{count-submitted}
+use Rattle.rules.specs.Submission.{count-submitted}
 use Rattle.tallies.proofs.Known.{changed-tally}
 use Rattle.tallies.proofs.submitted.Statement.{statement}
 use Rattle.tallies.proofs.submitted.Tie as tie

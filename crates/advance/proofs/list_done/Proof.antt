@@ -1,14 +1,14 @@
--- `listing` goes by how long the list is: too long for the buffer it leaves all as it was, and otherwise it writes the list and lets those on it leave. Assumes nothing.
+-- `list_done` goes by how long the list is: too long for the buffer it leaves all as it was, and otherwise it writes the list and lets those on it leave. Assumes nothing.
 use native.Mathlib.Omega.{arith}
 use borrow.Author.Needs.{needs}
 use lib.ListN.{length, take}
 use mathlib.Core.Path.{_≡_, refl, ap, _∙_}
-use Rattle.advance.proofs.Listed.{listing-short, listing-all}
+use Rattle.advance.proofs.Listed.{list-done-short, list-done-all}
 use Rattle.leaving.proofs.Listed.{table-list, table-count}
 use Rattle.queue.specs.declared.Table.{Table}
-use Rattle.rules.specs.Calls.{done-list}
-use Rattle.advance.proofs.listing.Statement.{statement}
-use Rattle.advance.proofs.listing.Tie as tie
+use Rattle.rules.specs.Advance.{done-list}
+use Rattle.advance.proofs.list_done.Statement.{statement}
+use Rattle.advance.proofs.list_done.Tie as tie
 
 settled-requires : tie.Need-settled-requires
 settled-requires c κs = search needs
@@ -25,7 +25,7 @@ returns c =
     let d = c .before .before .before .settled .result in
     let list = c .before .before .done-list .result in
     let long : list .count ≡ length (done-list d) = ap (λ (t : Table). t .count) (c .before .before .done-list .ensures .0) ∙ table-count (done-list d) in
-    let e = listing-short d (done-list d) (start .args .flows) (start .args .out .now) (list .count) long (omega arith) in
+    let e = list-done-short d (done-list d) (start .args .flows) (start .args .out .now) (list .count) long (omega arith) in
     (rw (← c .before .before .before .settled .ensures .0, e) refl, rw (← c .before .before .before .settled .ensures .0, e) refl)
 
 write-triples-requires : tie.Need-write-triples-requires
@@ -49,11 +49,11 @@ returns-2 c =
     let list = found .result in
     let long : list .count ≡ length (done-list d) = ap (λ (t : Table). t .count) (found .ensures .0) ∙ table-count (done-list d) in
     let all : take (list .count) (list .entries) ≡ done-list d = rw (found .ensures .0) (table-list (done-list d)) in
-    let e = listing-all d (done-list d) (start .args .flows) (start .args .out .now) (list .count) long (omega (arith, c .before .before .before .before .before .if1 .left)) in
+    let e = list-done-all d (done-list d) (start .args .flows) (start .args .out .now) (list .count) long (omega (arith, c .before .before .before .before .before .if1 .left)) in
     (rw (← settled .ensures .0, e, ← c .completed .ensures) refl, rw (← settled .ensures .0, e, ← all) (c .before .before .before .write-triples .ensures))
 
-pub listing-spec : {M : Type 1} → statement M
-listing-spec =
+pub list-done-spec : {M : Type 1} → statement M
+list-done-spec =
     tie.close
     (tie.spec
     settled-requires

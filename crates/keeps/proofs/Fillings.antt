@@ -1,0 +1,31 @@
+-- What holds of the filling of every simulator with the invariant holds of every filling in any history, since a drain to a time that a call may name keeps the invariant. Assumes
+-- nothing.
+use mathlib.Core.List.{List}
+use lib.Dec.{T}
+use Rattle.doubles.specs.Doubles.{read-zero}
+use Rattle.rules.specs.declared.Flows.{Flows}
+use Rattle.rules.specs.Lists.{all}
+use Rattle.rules.specs.Records.{fresh}
+use Rattle.rules.specs.Clock.{drain-to}
+use Rattle.rules.specs.Histories.{Turn, typed, run}
+use Rattle.rules.specs.Invariant.{Invariant}
+use Rattle.rules.specs.Promises.{WhereverFilled, AlwaysFair, AlwaysEnds}
+use Rattle.fairness.proofs.Start.{filling-ends}
+use Rattle.fairness.proofs.Fair.{fair-filling}
+use Rattle.keeps.proofs.Arguments.{time-clock, time-no-earlier}
+use Rattle.keeps.proofs.Draining.{drain-to-keeps}
+use Rattle.keeps.proofs.Always.{always-sound}
+
+always : (P : Flows → Type 0) → ((f : Flows) → Invariant f → P f) → (turns : List Turn) → T (all typed turns) → WhereverFilled P (run fresh turns)
+always P holds turns t =
+    let inv = always-sound turns t in
+    record {
+      as-it-stands = holds (run fresh turns) inv;
+      drained = λ to fit time later. holds (drain-to (read-zero to) (run fresh turns)) (drain-to-keeps inv (time-clock to fit time) (time-no-earlier to fit time (inv .clock .plain) later));
+    }
+
+pub always-fair : AlwaysFair
+always-fair = always _ fair-filling
+
+pub always-ends : AlwaysEnds
+always-ends = always _ filling-ends
