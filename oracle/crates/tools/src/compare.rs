@@ -1,6 +1,6 @@
 //! Two programs on one script: the first difference, shrunk to few calls.
 
-use crate::script::{read_line, without_remark, Call, Line};
+use crate::script::{goes_on_to, read_line, without_mark, without_remark, Call, Line};
 use std::fs::File;
 use std::path::PathBuf;
 use std::process::{Command, Stdio};
@@ -24,7 +24,7 @@ pub struct Difference {
 /// The lines of a script that get an answer.
 pub fn calls(script: &str) -> Vec<String> {
     let answered = |line: &&str| !matches!(read_line(line), Line::Blank);
-    script.lines().filter(answered).map(|line| without_remark(line).to_string()).collect()
+    without_mark(script).lines().filter(answered).map(|line| without_remark(line).to_string()).collect()
 }
 
 /// None where the programs agree on every answer. A difference is shrunk for so many seconds at the most.
@@ -116,7 +116,7 @@ fn with_new(lines: &[String]) -> Vec<String> {
 }
 
 impl Program {
-    /// The answers to a script, remarks cut off; a dump is one answer.
+    /// The answers to a script, remarks cut off.
     pub fn run(&self, lines: &[String]) -> Result<Vec<String>, String> {
         let script = Scratch::new("script");
         let output = Scratch::new("output");
@@ -140,15 +140,27 @@ impl Program {
 
 fn answers(output: &str) -> Vec<String> {
     let mut answers: Vec<String> = Vec::new();
-    let mut inside_dump = false;
+    let mut inside = None;
     for line in output.lines().map(without_remark).filter(|line| !line.is_empty()) {
         match answers.last_mut() {
-            Some(dump) if inside_dump => *dump += &format!("\n{line}"),
+            Some(answer) if inside.is_some() => *answer += &format!("\n{line}"),
             _ => answers.push(line.to_string()),
         }
-        inside_dump = (inside_dump || line.starts_with("dump ")) && line != "end";
+        inside = goes_on_to(inside, line);
     }
     answers
+}
+
+#[cfg(test)]
+mod tests {
+    use super::*;
+
+    #[test]
+    fn answers_of_several_lines_are_one() {
+        let output = "done\ndump clock 0\nkind 0 0 0 0 0\nend\nat 1 list 1 0 0 1 # 1.000000\nat 2 list 1 0 0 2\ndone\ndone\nedge 0\n";
+        let found = answers(output);
+        assert_eq!(found, ["done", "dump clock 0\nkind 0 0 0 0 0\nend", "at 1 list 1 0 0 1\nat 2 list 1 0 0 2\ndone", "done", "edge 0"]);
+    }
 }
 
 /// A file that goes when it is no longer needed.

@@ -3,9 +3,10 @@
 //! A call lies in it while, since the last `new`,
 //! 1. every + - * / that flows.rs did was exact, in slot order and in hash order, its running sums in every order
 //!    (the checked copies note this, see copies::checked), and
-//! 2. no accepted `cancel` of a known id, `widen` or `add_edge` came between a quiet advance and the next drain.
+//! 2. no accepted `cancel` of a known id, `widen` or `add_edge` came while some transfer was last drained before the clock,
+//!    as quiet advances leave it.
 //!
-//! Calls that are refused or can't be read change nothing and stay in. The first call outside takes the rest of its
+//! `run_until` and `finish` count as the calls that they are made of. Calls that are refused or can't be read change nothing and stay in. The first call outside takes the rest of its
 //! sequence out with it.
 
 use crate::script::{Call, Line};
@@ -15,8 +16,6 @@ use copies::checked::take_inexact;
 pub struct Judge {
     given: Session,
     patched: Session,
-    /// The clock has moved quietly since the last drain.
-    behind: bool,
     outside: bool,
 }
 
@@ -25,7 +24,6 @@ impl Default for Judge {
         Judge {
             given: Session::new(copies::checked_given, true),
             patched: Session::new(copies::checked_patched, true),
-            behind: false,
             outside: false,
         }
     }
@@ -48,24 +46,13 @@ impl Judge {
     }
 
     fn does_within(&mut self, call: &Call) -> bool {
-        if self.behind && self.drains_only_when_patched(call) {
+        if self.drains_only_when_patched(call) && self.is_behind() {
             return false;
         }
-        let quiet = self.is_quiet(call);
         take_inexact();
-        let answer = self.patched.answer(call);
+        self.patched.answer(call);
         self.given.answer(call);
-        if take_inexact() {
-            return false;
-        }
-        if !answer.starts_with("refused") {
-            self.behind = match call {
-                Call::Advance { .. } => quiet,
-                Call::Submit { .. } | Call::EstimateRemaining { .. } => false,
-                _ => self.behind,
-            };
-        }
-        true
+        !take_inexact()
     }
 
     /// The three calls that drain to the clock in the patched copy alone.
@@ -77,12 +64,42 @@ impl Judge {
         }
     }
 
-    /// Whether an advance takes the short way, which drains nothing.
-    fn is_quiet(&self, call: &Call) -> bool {
+    /// Whether a drain to the clock would move anybody.
+    fn is_behind(&self) -> bool {
         let sim = &self.patched.sim;
-        match call {
-            Call::Advance { time, .. } => !sim.stale() && sim.next_done().is_none_or(|next| next > *time),
-            _ => false,
-        }
+        sim.transfers().iter().any(|t| t.last < sim.now())
+    }
+}
+
+#[cfg(test)]
+mod tests {
+    use super::*;
+    use crate::script::read_line;
+
+    fn admitted(script: &[&str]) -> Vec<bool> {
+        let mut judge = Judge::default();
+        script.iter().map(|line| judge.admits(&read_line(line))).collect()
+    }
+
+    #[test]
+    fn a_drain_of_the_patched_copy_alone_leaves_the_domain() {
+        let start = ["add_edge 10", "submit 1 0 0 100 0 - 0 1 0", "next_completion_delay", "advance 2 768"];
+        let after = |calls: &[&str]| admitted(&[&start, calls].concat())[start.len()..].to_vec();
+        assert_eq!(after(&["widen 0 1", "now"]), [false, false]);
+        assert_eq!(after(&["cancel 2", "widen 7 1", "cancel 1"]), [true, true, false]);
+        assert_eq!(after(&["estimate_remaining 1", "add_edge 3"]), [true, true]);
+        assert_eq!(after(&["advance 10 768", "advance 12 768", "add_edge 3"]), [true, true, true]);
+    }
+
+    #[test]
+    fn steps_count_as_the_calls_they_are_made_of() {
+        let start = ["add_edge 10", "submit 1 0 0 100 0 - 0 1 0", "submit 2 0 0 40 0 - 0 1 0"];
+        let after = |calls: &[&str]| admitted(&[&start, calls].concat())[start.len()..].to_vec();
+        // Twice 5 a second until 8, then 10 until 14; the step to 9 is quiet.
+        assert_eq!(after(&["run_until 9", "finish", "widen 0 1"]), [true, true, true]);
+        assert_eq!(after(&["run_until 9", "widen 0 1", "now"]), [true, false, false]);
+        assert_eq!(after(&["run_until -1", "widen 0 10", "finish"]), [true, true, true]);
+        // Thirds round.
+        assert_eq!(after(&["submit 3 0 0 40 0 - 0 1 0", "finish", "now"]), [true, false, false]);
     }
 }

@@ -2,6 +2,7 @@
 
 use copies::Party;
 use std::fmt;
+use std::io::BufRead;
 
 /// Longest buffer and path that a script may ask for.
 pub const MOST_PLACES: usize = 1024;
@@ -15,6 +16,8 @@ pub enum Call {
     Widen { edge: u32, amount: f64 },
     Submit { id: u32, owner: Party, bytes: u64, latency: f64, cap: Option<f64>, time: f64, path: Vec<u32> },
     Advance { time: f64, places: usize },
+    RunUntil { time: f64 },
+    Finish,
     Cancel { id: u32 },
     TakeCompleted { owner: Party, places: usize },
     OwnersWithCompletions { places: usize },
@@ -37,6 +40,33 @@ pub enum Line {
     Blank,
     Call(Call),
     Malformed,
+}
+
+/// What a text file may begin with to say how it is written: a blank there, and nowhere else.
+const BYTE_ORDER_MARK: char = '\u{feff}';
+
+/// The lines of a script as text, without their ends.
+pub fn lines(script: impl BufRead) -> impl Iterator<Item = std::io::Result<String>> {
+    script.split(b'\n').enumerate().map(|(i, line)| {
+        let line = String::from_utf8_lossy(&line?).into_owned();
+        Ok(if i == 0 { without_mark(&line).to_string() } else { line })
+    })
+}
+
+/// A script without the mark at its very start.
+pub fn without_mark(script: &str) -> &str {
+    script.strip_prefix(BYTE_ORDER_MARK).unwrap_or(script)
+}
+
+/// Several lines may be one answer: a `dump` up to its `end`, steps `at` some time up to their `done`. Says of a line what
+/// ends the answer that it belongs to, or nothing where it ends it itself; `inside` is what was said of the line before.
+pub fn goes_on_to(inside: Option<&'static str>, line: &str) -> Option<&'static str> {
+    let end = inside.or(match line.split(' ').next() {
+        Some("dump") => Some("end"),
+        Some("at") => Some("done"),
+        _ => None,
+    });
+    end.filter(|end| *end != line)
 }
 
 /// Takes the remark off a line, and the blanks around the rest: space, tab, carriage return and form feed, no others.
@@ -80,6 +110,8 @@ impl<'a> Words<'a> {
                 path: self.path()?,
             },
             "advance" => Call::Advance { time: self.double()?, places: self.places()? },
+            "run_until" => Call::RunUntil { time: self.double()? },
+            "finish" => Call::Finish,
             "cancel" => Call::Cancel { id: self.number()? },
             "take_completed" => Call::TakeCompleted { owner: self.owner()?, places: self.places()? },
             "owners_with_completions" => Call::OwnersWithCompletions { places: self.places()? },
@@ -230,6 +262,8 @@ impl fmt::Display for Call {
                 write_path(path)
             ),
             Call::Advance { time, places } => write!(f, "advance {} {places}", double(time)),
+            Call::RunUntil { time } => write!(f, "run_until {}", double(time)),
+            Call::Finish => write!(f, "finish"),
             Call::Cancel { id } => write!(f, "cancel {id}"),
             Call::TakeCompleted { owner, places } => write!(f, "take_completed {} {places}", write_owner(*owner)),
             Call::OwnersWithCompletions { places } => write!(f, "owners_with_completions {places}"),
@@ -267,12 +301,25 @@ mod tests {
 
     #[test]
     fn a_call_is_read_back_as_written() {
-        for line in ["submit 1 0 7 100 0.25 - 3 2 0 1", "advance 4014000000000001 768", "widen 0 -1", "new", "dump"] {
+        for line in ["submit 1 0 7 100 0.25 - 3 2 0 1", "advance 4014000000000001 768", "widen 0 -1", "new", "dump", "run_until 2.5", "finish"] {
             let Line::Call(call) = read_line(line) else { panic!("{line}") };
             assert_eq!(call.to_string(), line);
         }
         assert!(matches!(read_line("  # only a remark"), Line::Blank));
-        assert!(matches!(read_line("now 1"), Line::Malformed));
+        for line in ["now 1", "run_until", "run_until 1 768", "run_until -", "finish 1"] {
+            assert!(matches!(read_line(line), Line::Malformed), "{line}");
+        }
+    }
+
+    #[test]
+    fn a_byte_order_mark_is_a_blank_at_the_start_alone() {
+        let read = |text: &[u8]| -> Vec<Line> { lines(text).map(|line| read_line(&line.expect("readable"))).collect() };
+        assert!(matches!(read(b"\xef\xbb\xbfnow\nnow")[..], [Line::Call(Call::Now), Line::Call(Call::Now)]));
+        assert!(matches!(read(b"\xef\xbb\xbf\nnow")[..], [Line::Blank, Line::Call(Call::Now)]));
+        assert!(matches!(read(b"\xef\xbb\xbf# a remark")[..], [Line::Blank]));
+        assert!(matches!(read(b"now\n\xef\xbb\xbfnow")[..], [Line::Call(Call::Now), Line::Malformed]));
+        assert!(matches!(read(b" \xef\xbb\xbfnow")[..], [Line::Malformed]));
+        assert!(matches!(read(b"\xef\xbb\xbf\xef\xbb\xbfnow")[..], [Line::Malformed]));
     }
 
     #[test]

@@ -3,7 +3,7 @@
 //! Refusals stand call by call as a list of (number, when), in document 01's numbers and in the order of asking; the first
 //! that holds is the answer. Everything that is computed comes from the copy.
 
-use crate::script::{hex, kind, worker, write_path, Call, Line};
+use crate::script::{hex, kind, lines, read_line, worker, write_path, Call, Line};
 use copies::{Party, Simulator, Submission};
 use std::io::{BufRead, Write};
 
@@ -75,7 +75,7 @@ impl Session {
                 (7, sim.in_flight() + sim.uncollected() >= MOST_ENTRIES),
                 (9, sim.submitted()[kind(*owner)] == u64::MAX),
             ],
-            Call::Advance { time, .. } => vec![(1, !is_clock_time(*time)), (2, *time < sim.now())],
+            Call::Advance { time, .. } | Call::RunUntil { time } => vec![(1, !is_clock_time(*time)), (2, *time < sim.now())],
             Call::EstimateNew { bytes, latency, cap, path } => vec![
                 (1, !not_below_zero(*bytes) || !latency.is_finite() || !cap_in_order(*cap)),
                 (3, path.iter().any(absent)),
@@ -112,6 +112,8 @@ impl Session {
                 "done".to_string()
             }
             Call::Advance { time, places } => self.advance(plus_zero(*time), *places),
+            Call::RunUntil { time } => self.run_until(plus_zero(*time)),
+            Call::Finish => self.finish(),
             Call::Cancel { id } => self.cancel(*id),
             Call::TakeCompleted { owner, places } => self.take_completed(*owner, *places),
             Call::OwnersWithCompletions { places } => {
@@ -142,11 +144,10 @@ impl Session {
     /// Done on a copy where the buffer might be short, so that a refusal leaves no trace.
     fn advance(&mut self, time: f64, places: usize) -> String {
         let before = (places < 3 * self.sim.in_flight()).then(|| self.sim.copy());
-        let done = self.sim.advance(time);
-        let entries: Vec<[u32; 3]> = done.iter().map(|(o, id)| [kind(*o) as u32, worker(*o), *id]).collect();
+        let entries = self.who_is_done(time);
         match (write_list(&entries, places), before) {
             (Some(text), _) => {
-                done.iter().for_each(|(owner, _)| self.completed[kind(*owner)] += 1);
+                self.tally_completed(&entries);
                 text
             }
             (None, before) => {
@@ -154,6 +155,52 @@ impl Session {
                 too_short()
             }
         }
+    }
+
+    /// Advances and lists kind, worker and id of each.
+    fn who_is_done(&mut self, time: f64) -> Vec<[u32; 3]> {
+        self.sim.advance(time).iter().map(|(owner, id)| [kind(*owner) as u32, worker(*owner), *id]).collect()
+    }
+
+    fn tally_completed(&mut self, entries: &[[u32; 3]]) {
+        entries.iter().for_each(|[kind, ..]| self.completed[*kind as usize] += 1);
+    }
+
+    /// From completion to completion up to `time`, until nobody is listed there.
+    fn run_until(&mut self, time: f64) -> String {
+        let mut steps = Steps::default();
+        loop {
+            let ahead = self.sim.next_completion_delay().map_or(time, |delay| steps.ahead(self.sim.now(), delay));
+            let to = if ahead < time { ahead } else { time };
+            if !self.step(to, &mut steps) && to == time {
+                return steps.told();
+            }
+        }
+    }
+
+    /// From completion to completion until nobody is ever done, or not while the clock can tell.
+    fn finish(&mut self) -> String {
+        let mut steps = Steps::default();
+        while let Some(delay) = self.sim.next_completion_delay() {
+            let to = steps.ahead(self.sim.now(), delay);
+            if to > LATEST {
+                break;
+            }
+            self.step(to, &mut steps);
+        }
+        steps.told()
+    }
+
+    /// One advance with a buffer that is always long enough; whether it lists somebody.
+    fn step(&mut self, to: f64, steps: &mut Steps) -> bool {
+        let entries = self.who_is_done(to);
+        self.tally_completed(&entries);
+        steps.stuck = entries.is_empty();
+        if !steps.stuck {
+            let words: Vec<String> = entries.concat().iter().map(u32::to_string).collect();
+            steps.lines.push(format!("at {} list {} {}", hex(to), entries.len(), words.join(" ")));
+        }
+        !steps.stuck
     }
 
     fn cancel(&mut self, id: u32) -> String {
@@ -247,11 +294,30 @@ impl Session {
     }
 }
 
+/// What `run_until` and `finish` have listed, and whether their last step listed nobody.
+#[derive(Default)]
+struct Steps {
+    lines: Vec<String>,
+    stuck: bool,
+}
+
+impl Steps {
+    /// Where the clock goes for a delay: to the next double at least, where it stood still for nothing.
+    fn ahead(&self, now: f64, delay: f64) -> f64 {
+        let to = now + delay;
+        if self.stuck && to <= now { now.next_up() } else { to }
+    }
+
+    fn told(mut self) -> String {
+        self.lines.push("done".to_string());
+        self.lines.join("\n")
+    }
+}
+
 /// Answers every line of a script.
 pub fn run(session: &mut Session, script: impl BufRead, mut out: impl Write) -> std::io::Result<()> {
-    for line in script.split(b'\n') {
-        let line = String::from_utf8_lossy(&line?).into_owned();
-        if let Some(answer) = session.answer_line(&crate::script::read_line(&line)) {
+    for line in lines(script) {
+        if let Some(answer) = session.answer_line(&read_line(&line?)) {
             writeln!(out, "{answer}")?;
         }
     }
@@ -300,4 +366,58 @@ fn write_list<const N: usize>(entries: &[[u32; N]], places: usize) -> Option<Str
     }
     let kept = tail.iter().all(|place| *place == UNTOUCHED);
     Some(text + if kept { " tail-kept" } else { " tail-changed" })
+}
+
+#[cfg(test)]
+mod tests {
+    use super::*;
+
+    /// The last answer of a script, from each copy.
+    fn last(script: &[&str]) -> String {
+        let answer = |make: Maker| {
+            let mut session = Session::new(make, true);
+            script.iter().fold(String::new(), |_, line| session.answer_line(&read_line(line)).expect("a call"))
+        };
+        assert_eq!(answer(copies::given), answer(copies::patched));
+        answer(copies::patched)
+    }
+
+    const TWO: [&str; 3] = ["add_edge 10", "submit 1 0 0 100 0 - 0 1 0", "submit 2 1 0 40 0 - 0 1 0"];
+
+    fn after_two(calls: &[&str]) -> String {
+        last(&[&TWO, calls].concat())
+    }
+
+    #[test]
+    fn steps_go_from_completion_to_completion() {
+        let (eight, fourteen) = (hex(8.0), hex(14.0));
+        assert_eq!(after_two(&["finish"]), format!("at {eight} list 1 1 0 2\nat {fourteen} list 1 0 0 1\ndone"));
+        assert_eq!(after_two(&["run_until 7"]), "done");
+        assert_eq!(after_two(&["run_until 8"]), format!("at {eight} list 1 1 0 2\ndone"));
+        assert_eq!(after_two(&["run_until 9", "now"]), value(9.0));
+        assert_eq!(after_two(&["finish", "now"]), value(14.0));
+        assert_eq!(after_two(&["finish", "finish"]), "done");
+        // Nothing is collected.
+        assert_eq!(after_two(&["finish", "take_completed 1 0 256"]), "list 1 2 tail-kept");
+    }
+
+    #[test]
+    fn steps_are_refused_as_an_advance_is() {
+        for time in ["-1", "7ff8000000000000", "7ff0000000000000", "4270000000000001"] {
+            assert_eq!(after_two(&["advance 3 768", &format!("run_until {time}")]), "refused 1", "{time}");
+        }
+        assert_eq!(after_two(&["advance 3 768", "run_until 2"]), "refused 2");
+        assert_eq!(after_two(&["run_until 8000000000000000"]), "done");
+    }
+
+    #[test]
+    fn nobody_is_done_where_the_clock_ends() {
+        // Past 2^40 seconds, and never.
+        for path in ["add_edge 0.00000000000001", "add_edge 0"] {
+            let far = [path, "submit 1 0 0 1 0 - 0 1 0"];
+            assert_eq!(last(&[&far[..], &["finish"]].concat()), "done");
+            assert_eq!(last(&[&far[..], &["finish", "now"]].concat()), value(0.0));
+            assert_eq!(last(&[&far[..], &["run_until 1099511627776"]].concat()), "done");
+        }
+    }
 }

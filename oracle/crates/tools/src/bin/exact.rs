@@ -1,16 +1,16 @@
 //! exact [--mark] [SCRIPT]: cuts a script to the domain on which the Rust as given is compared.
 //! With --mark every line stays and those outside get a remark. The counts go to standard error.
 
-use std::io::{BufRead, Write};
+use std::io::Write;
 use tools::exact::Judge;
-use tools::script::{read_line, Line};
+use tools::script::{lines, read_line, Line};
 
 fn main() {
     let mark = std::env::args().any(|word| word == "--mark");
     let mut out = std::io::BufWriter::new(std::io::stdout());
     let mut judge = Judge::default();
     let (mut within, mut calls) = (0u64, 0u64);
-    for line in tools::input().lines() {
+    for line in lines(tools::input()) {
         let line = line.unwrap_or_else(|e| tools::give_up(&format!("exact: {e}")));
         let read = read_line(&line);
         let admitted = judge.admits(&read);

@@ -14,17 +14,33 @@ fn fixed(x: f64) -> String {
     format!("{sign}{}.{:06}", whole + millionths / 1000000, millionths % 1000000)
 }
 
-/// The doubles of an answer, if these are all it has: a value, a delay, or an edge by its number's question.
+/// The doubles of an answer that get a remark: a value, a delay, an edge by its number's question, the time of a step.
 fn doubles(line: &str) -> Option<Vec<f64>> {
-    let mut words = line.split(' ');
-    let wanted = match words.next()? {
-        "value" | "after" => 1,
-        "edge" => 3,
+    let words: Vec<&str> = line.split(' ').collect();
+    let wanted = match (words[0], words.len()) {
+        ("value" | "after", 2) => &words[1..],
+        ("edge", 4) => &words[1..],
+        ("at", 2..) => &words[1..2],
         _ => return None,
     };
-    let bits = |word: &str| if word.len() == 16 { u64::from_str_radix(word, 16).ok() } else { None };
-    let values: Vec<f64> = words.map(|word| bits(word).map(f64::from_bits)).collect::<Option<_>>()?;
-    (values.len() == wanted && values.iter().all(|x| x.abs() < READABLE)).then_some(values)
+    let bits = |word: &&str| if word.len() == 16 { u64::from_str_radix(word, 16).ok() } else { None };
+    let values: Vec<f64> = wanted.iter().map(|word| bits(word).map(f64::from_bits)).collect::<Option<_>>()?;
+    values.iter().all(|x| x.abs() < READABLE).then_some(values)
+}
+
+#[cfg(test)]
+mod tests {
+    use super::*;
+
+    #[test]
+    fn what_gets_a_remark() {
+        assert_eq!(doubles("after 4014000000000000"), Some(vec![5.0]));
+        assert_eq!(doubles("at 3ff0000000000000 list 1 0 0 1"), Some(vec![1.0]));
+        assert_eq!(doubles("edge 4024000000000000 0000000000000000 3ff0000000000000"), Some(vec![10.0, 0.0, 1.0]));
+        for other in ["edge 0", "edge 0 4024000000000000 0000000000000000 3ff0000000000000", "value 7ff0000000000000", "done", "list 0 tail-kept"] {
+            assert_eq!(doubles(other), None, "{other}");
+        }
+    }
 }
 
 fn main() {
