@@ -52,23 +52,24 @@ fn heading(calls: usize, seed: u64) -> String {
     settings.iter().fold(include_str!("../page.md").to_string(), |page, (name, value)| page.replace(name, value))
 }
 
-/// Where the vectors and where the random run caught a copy.
-type Verdict = (Option<String>, Option<String>);
+/// Where the vectors and where the profiles of the random run caught a copy, each place where it happens first.
+type Verdict = (Vec<String>, Vec<String>);
 
 /// The table of faults; answers how many got through.
 fn show_faults(rows: &[Verdict]) -> usize {
-    println!("| fault | what is wrong | by the vectors | by the random run | caught by |\n|---|---|---|---|---|");
+    println!("| fault | what is wrong | by the vectors | by the random run | profiles | caught by |\n|---|---|---|---|---|---|");
     let mut missed = 0;
     for (fault, (by_vectors, by_random)) in FAULTS.iter().zip(rows) {
-        let caught = match (by_vectors, by_random) {
-            (Some(_), Some(_)) => "both",
-            (Some(_), None) => "vectors",
-            (None, Some(_)) => "random",
-            (None, None) => "**nothing**",
+        let caught = match (by_vectors.is_empty(), by_random.is_empty()) {
+            (false, false) => "both",
+            (false, true) => "vectors",
+            (true, false) => "random",
+            (true, true) => "**nothing**",
         };
-        missed += usize::from(by_vectors.is_none() && by_random.is_none());
-        let show = |found: &Option<String>| found.clone().unwrap_or("-".to_string());
-        println!("| {} | {} | {} | {} | {caught} |", fault.name, fault.wrong, show(by_vectors), show(by_random));
+        missed += usize::from(by_vectors.is_empty() && by_random.is_empty());
+        let first = |found: &[String]| found.first().cloned().unwrap_or("-".to_string());
+        let profiles = format!("{} of {}", by_random.len(), PROFILES.len());
+        println!("| {} | {} | {} | {} | {profiles} | {caught} |", fault.name, fault.wrong, first(by_vectors), first(by_random));
     }
     missed
 }
@@ -78,8 +79,9 @@ fn show_harmless(rows: &[Verdict]) -> usize {
     println!("\n## Edits that change nothing\n\nLooked at too, and told apart by no call:\n");
     let mut told_apart = 0;
     for (edit, verdict) in HARMLESS.iter().zip(rows) {
-        let mark = if *verdict == (None, None) { "" } else { " **told apart after all**" };
-        told_apart += usize::from(*verdict != (None, None));
+        let apart = !(verdict.0.is_empty() && verdict.1.is_empty());
+        let mark = if apart { " **told apart after all**" } else { "" };
+        told_apart += usize::from(apart);
         println!("- {}: {}{mark}", edit.name, edit.wrong);
     }
     told_apart
@@ -87,7 +89,7 @@ fn show_harmless(rows: &[Verdict]) -> usize {
 
 /// Two threads, each with every second fault.
 fn verdicts(vectors: &[Run], random: &[Run]) -> Vec<Verdict> {
-    let verdict = |make: Maker| (first_caught(make, vectors), first_caught(make, random));
+    let verdict = |make: Maker| (caught(make, vectors).take(1).collect(), caught(make, random).collect());
     let half = |odd: usize| (odd..MAKERS.len()).step_by(2).map(|i| (i, verdict(MAKERS[i]))).collect::<Vec<_>>();
     let mut all = std::thread::scope(|scope| {
         let other = scope.spawn(|| half(1));
@@ -134,9 +136,9 @@ fn mark(answer: &Option<String>) -> u64 {
     hasher.finish()
 }
 
-/// Where a faulty copy first gives another answer, or breaks down.
-fn first_caught(make: Maker, runs: &[Run]) -> Option<String> {
-    runs.iter().find_map(|run| caught_at(make, run).map(|call| format!("{} {call}", run.name)))
+/// In each run where a faulty copy first gives another answer, or breaks down.
+fn caught(make: Maker, runs: &[Run]) -> impl Iterator<Item = String> + '_ {
+    runs.iter().filter_map(move |run| caught_at(make, run).map(|call| format!("{} {call}", run.name)))
 }
 
 fn caught_at(make: Maker, run: &Run) -> Option<usize> {

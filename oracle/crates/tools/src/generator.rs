@@ -1,5 +1,7 @@
 //! Random scripts. A session over the patched copy runs along, so that most calls can be made acceptable.
 
+mod aims;
+
 use crate::exact::Judge;
 use crate::random::Random;
 use crate::script::{read_line, Call};
@@ -188,11 +190,20 @@ impl Generator {
         self.lines.truncate(start + room);
     }
 
-    /// One line more.
+    /// One line more, or a few.
     fn step(&mut self) {
-        if self.profile == Profile::Wrong && self.random.chance(60) {
+        if self.profile == Profile::Wrong && self.random.chance(70) {
             let line = self.wrong_line();
             return self.emit(line);
+        }
+        // So many steps of a hundred are some lines aimed at one place.
+        let aimed = match self.profile {
+            Profile::Whole => 1,
+            Profile::Wrong => 8,
+            _ => 4,
+        };
+        if self.random.chance(aimed) {
+            return self.aim();
         }
         let weights = match self.profile {
             Profile::Crowd => CROWDED,

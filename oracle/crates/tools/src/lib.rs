@@ -7,6 +7,7 @@ pub mod generator;
 pub mod random;
 pub mod script;
 pub mod session;
+pub mod tolerances;
 
 use std::io::{BufRead, BufReader, BufWriter};
 

@@ -9,9 +9,8 @@ mod tolerance;
 
 use crate::script::{hex, read_line, write_double, write_path};
 use crate::session::Session;
+use crate::tolerances::{neighbours, B, F};
 
-const B: f64 = 1e-6;
-const F: f64 = 1e-12;
 const TWO_20: f64 = (1 << 20) as f64;
 const LATEST: f64 = (1u64 << 40) as f64;
 const LEAST: f64 = f64::from_bits(1);
@@ -94,9 +93,4 @@ fn value(v: f64) -> String {
 
 fn after(v: f64) -> String {
     format!("after {}", hex(v))
-}
-
-/// A number and the doubles just below and above it.
-fn neighbours(v: f64) -> [f64; 3] {
-    [v.next_down(), v, v.next_up()]
 }

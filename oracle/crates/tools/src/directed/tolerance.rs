@@ -2,6 +2,7 @@
 
 use super::*;
 use crate::random::Random;
+use crate::tolerances::{eps_at, whole_over_double};
 
 /// Bytes left are B or a neighbour of it, to the bit.
 pub(super) fn bytes_left() -> Vec<String> {
@@ -49,7 +50,7 @@ pub(super) fn drain_time() -> Vec<String> {
         let eps = eps_at(clock);
         for target in neighbours(eps) {
             let b = &mut book;
-            let (bytes, capacity) = whole_over_double(target);
+            let (bytes, capacity) = whole_over_double(target, 1).expect("a quotient for each");
             b.begin(&format!("bytes/rate {} eps at clock {clock}", relation(target, eps)));
             b.say(&format!("add_edge {}", hex(capacity)));
             b.say(&format!("advance {} 768", write_double(clock)));
@@ -67,28 +68,12 @@ pub(super) fn drain_time() -> Vec<String> {
     book.lines
 }
 
-fn eps_at(clock: f64) -> f64 {
-    (clock * 4.0 * f64::EPSILON).max(F)
-}
-
 fn relation(target: f64, eps: f64) -> &'static str {
     match target.total_cmp(&eps) {
         std::cmp::Ordering::Less => "just below",
         std::cmp::Ordering::Equal => "exactly",
         std::cmp::Ordering::Greater => "just above",
     }
-}
-
-/// A whole number and a double whose rounded quotient is the target.
-fn whole_over_double(target: f64) -> (u64, f64) {
-    for n in 1..1000u64 {
-        let about = n as f64 / target;
-        let tries = [about, about.next_down(), about.next_up()];
-        if let Some(found) = tries.into_iter().find(|c| n as f64 / c == target) {
-            return (n, found);
-        }
-    }
-    panic!("no quotient gives {target}");
 }
 
 /// The latency left is eps or a neighbour of it: as submitted, after a drain, and where eps leaves its floor.

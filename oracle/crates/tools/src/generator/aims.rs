@@ -1,0 +1,264 @@
+//! A few lines each, aimed at places that random numbers do not meet: bytes left, time left and latency left at their
+//! tolerances, the calls that drain before they change something, ties and clamps.
+
+use super::*;
+use crate::tolerances::{eps_at, neighbours, whole_over_double, B};
+
+/// What is left before the last step to B: from here on B and its neighbours are met by exact steps.
+const LITTLE: f64 = 1.0 / (1 << 19) as f64;
+
+impl Generator {
+    /// Some lines at one place, or a single one where a call would leave the domain of `whole` or a table is full.
+    pub(super) fn aim(&mut self) {
+        let aims: &[fn(&mut Generator) -> Option<()>] = match self.profile {
+            // Of a drain before a change and of a number next to a tolerance, nothing lies in the exact domain.
+            Profile::Whole => &[Self::at_drain_time, Self::at_latency_left],
+            Profile::Wild => &[Self::at_bytes_left, Self::at_drain_time, Self::at_latency_left, Self::at_change, Self::at_clamp],
+            Profile::Ties => &[Self::at_bytes_left, Self::at_drain_time, Self::at_latency_left, Self::at_change, Self::at_equal_caps],
+            _ => &[Self::at_bytes_left, Self::at_drain_time, Self::at_latency_left, Self::at_change],
+        };
+        let aim = *self.random.pick(aims);
+        if aim(self).is_none() {
+            self.emit(Call::Now.to_string());
+        }
+    }
+
+    /// Some bytes run down to B or a neighbour of it, and a call that tells whether they count as none.
+    fn at_bytes_left(&mut self) -> Option<()> {
+        let clock = self.session.sim.now();
+        // Steps of 2^-fine seconds: no shorter than eps, so that it is the bytes that decide, and whole steps from 0 to the clock.
+        let finest = -1 - exponent(eps_at(2.0 * clock + 1.0));
+        let fine = finest - self.random.below(8) as i32;
+        let coarse = fine - 21 - self.random.below(4) as i32;
+        let start = (clock * 2f64.powi(fine)).ceil() / 2f64.powi(fine);
+        let (bytes, target) = (self.random.between(1, 2) as u64, *self.random.pick(&neighbours(B)));
+        let first = (bytes as f64 - LITTLE) * 2f64.powi(coarse);
+        let last = (LITTLE - target) * 2f64.powi(fine);
+        let middle = start + 2f64.powi(-coarse);
+        let end = middle + 2f64.powi(-fine);
+        let edge = self.aimed_edge(first)?;
+        let id = self.aimed_submit(bytes, 0.0, None, start, vec![edge])?;
+        self.maybe(Call::NextCompletionDelay, 50)?;
+        self.aimed(Call::Advance { time: middle, places: AMPLE })?;
+        self.aimed(Call::Widen { edge, amount: last - first })?;
+        match self.random.below(4) {
+            0 => {
+                // Another beside it shows who takes part in a filling and in an estimate.
+                let bytes = self.some_bytes();
+                let other = self.aimed_submit(bytes, 0.0, None, end, vec![edge])?;
+                self.maybe(Call::EstimateNew { bytes: 1.0, latency: 0.0, cap: None, path: vec![edge] }, 50)?;
+                self.aimed(Call::Rate { id: other })?;
+                self.maybe(Call::Rounds, 50)?;
+            }
+            1 => {
+                self.aimed(Call::NextCompletionDelay)?;
+                self.aimed(Call::Advance { time: end, places: AMPLE })?;
+                self.aimed(Call::EstimateNew { bytes: 1.0, latency: 0.0, cap: None, path: vec![edge] })?;
+            }
+            _ => {}
+        }
+        self.maybe(Call::EstimateRemaining { id }, 30)?;
+        self.aimed(Call::Advance { time: end, places: AMPLE })?;
+        self.maybe(Call::Contains { id }, 30)
+    }
+
+    /// Bytes over rate are eps or a neighbour of it.
+    fn at_drain_time(&mut self) -> Option<()> {
+        let clock = self.round_clock()?;
+        let target = *self.random.pick(&neighbours(eps_at(clock)));
+        let (bytes, rate) = whole_over_double(target, self.random.between(1, 3000) as u64)?;
+        let id = if self.random.chance(50) {
+            self.aimed_submit(bytes, 0.0, Some(rate), clock, vec![])?
+        } else {
+            let edge = self.aimed_edge(rate)?;
+            self.aimed_submit(bytes, 0.0, None, clock, vec![edge])?
+        };
+        self.question(id)?;
+        self.aimed(Call::Advance { time: clock, places: AMPLE })?;
+        self.maybe(Call::Contains { id }, 30)
+    }
+
+    /// The latency left is eps or a neighbour of it, as submitted or after a step of the clock.
+    fn at_latency_left(&mut self) -> Option<()> {
+        let clock = self.round_clock()?;
+        let bytes = *self.random.pick(&[0, 0, 7]);
+        // The least steps of the clock: a sum with one of them keeps all digits of eps.
+        let step = (clock.next_up() - clock).max(2f64.powi(-41)) * *self.random.pick(&[1.0, 2.0]);
+        let end = if self.random.chance(50) { clock } else { clock + step };
+        let target = *self.random.pick(&neighbours(eps_at(end)));
+        let id = self.aimed_submit(bytes, target + (end - clock), None, clock, vec![])?;
+        if self.random.chance(30) {
+            self.aimed_submit(1, 1.0, None, end, vec![])?;
+        }
+        self.question(id)?;
+        self.aimed(Call::Advance { time: end, places: AMPLE })?;
+        self.maybe(Call::Contains { id }, 30)
+    }
+
+    /// A quiet advance, then a call that has to drain before it changes anything, then one that shows the bytes.
+    fn at_change(&mut self) -> Option<()> {
+        let clock = self.session.sim.now();
+        let moving = |t: &copies::TransferView| t.rate > 0.0 && t.rate.is_finite() && t.bytes > 1.0 && t.latency == 0.0 && !t.path.is_empty();
+        let mut found: Vec<(u32, u32)> = self.session.sim.transfers().iter().filter(|t| moving(t)).map(|t| (t.id, t.path[0] as u32)).collect();
+        if found.is_empty() || self.random.chance(30) {
+            let capacity = Some(self.capacity()).filter(|c| c.is_finite() && *c > 0.0).unwrap_or(8.0);
+            let edge = self.aimed_edge(capacity)?;
+            let bytes = self.some_bytes();
+            found = vec![(self.aimed_submit(bytes, 0.0, None, clock, vec![edge])?, edge)];
+        }
+        let (id, edge) = *self.random.pick(&found);
+        self.aimed(Call::NextCompletionDelay)?;
+        for _ in 0..self.random.between(1, 2) {
+            let clock = self.session.sim.now();
+            let ahead = match self.session.sim.next_done() {
+                Some(next) if next.is_finite() => (next - clock) * (0.125 + 0.75 * self.fraction()),
+                _ => self.step_ahead(),
+            };
+            let time = Some(clock + ahead).filter(|t| *t > clock && *t <= LATEST)?;
+            self.aimed(Call::Advance { time, places: AMPLE })?;
+        }
+        let change = match self.random.below(6) {
+            0 => Call::AddEdge { capacity: self.capacity() },
+            1 => Call::Cancel { id },
+            2 | 3 => Call::Widen { edge, amount: 0.0 },
+            _ => Call::Widen { edge, amount: self.amount() },
+        };
+        self.aimed(change)?;
+        match self.random.below(4) {
+            0 => self.aimed(Call::Dump),
+            1 => self.aimed(Call::NextCompletionDelay),
+            2 => {
+                let time = self.time();
+                self.aimed(Call::Advance { time, places: AMPLE })?;
+                self.aimed(Call::Edge { edge })
+            }
+            _ => self.aimed(Call::Edge { edge }),
+        }
+    }
+
+    /// Equal caps that use an edge up to the last bits, each crossing it many times: here the order of the ties shows.
+    fn at_equal_caps(&mut self) -> Option<()> {
+        let (transfers, crossings) = (self.random.between(2, 5), self.random.between(3, 8));
+        let cap = self.random.mantissa();
+        let mut capacity = cap * (transfers * crossings) as f64;
+        (0..self.random.between(0, 3)).for_each(|_| capacity = capacity.next_up());
+        let edge = self.aimed_edge(capacity)?;
+        let clock = self.session.sim.now();
+        for _ in 0..transfers {
+            self.aimed_submit(1000, 0.0, Some(cap), clock, vec![edge; crossings])?;
+        }
+        self.aimed(Call::NextCompletionDelay)?;
+        self.aimed(Call::Dump)
+    }
+
+    /// Edges of a few units of the least subnormal: shares round up by half of themselves, and residuals clamp at 0.
+    fn at_clamp(&mut self) -> Option<()> {
+        let mut edges = Vec::new();
+        for _ in 0..3 {
+            let units = self.random.between(2, 9) as u64;
+            edges.push(self.aimed_edge(f64::from_bits(units))?);
+        }
+        let clock = self.session.sim.now();
+        let [low, middle, high] = edges[..] else { return None };
+        for _ in 0..self.random.between(2, 4) {
+            self.aimed_submit(5, 0.0, None, clock, vec![low, middle])?;
+        }
+        self.aimed_submit(5, 0.0, None, clock, vec![middle, high])?;
+        self.aimed_submit(5, 0.0, None, clock, vec![high])?;
+        self.aimed(Call::NextCompletionDelay)?;
+        self.aimed(Call::Dump)
+    }
+
+    // ---- parts ----
+
+    /// Emits a call where it may be.
+    fn aimed(&mut self, call: Call) -> Option<()> {
+        self.offer(call).then_some(())
+    }
+
+    fn maybe(&mut self, call: Call, percent: usize) -> Option<()> {
+        if self.random.chance(percent) { self.aimed(call) } else { Some(()) }
+    }
+
+    /// What drains, fills or only looks, or nothing.
+    fn question(&mut self, id: u32) -> Option<()> {
+        match self.random.below(4) {
+            0 => self.aimed(Call::EstimateRemaining { id }),
+            1 => self.aimed(Call::NextCompletionDelay),
+            2 => self.aimed(Call::Rate { id }),
+            _ => Some(()),
+        }
+    }
+
+    /// A new edge, which nobody else crosses.
+    fn aimed_edge(&mut self, capacity: f64) -> Option<u32> {
+        let edge = self.session.sim.edges();
+        self.aimed(Call::AddEdge { capacity })?;
+        (self.session.sim.edges() > edge).then_some(edge as u32)
+    }
+
+    /// A new transfer's id.
+    fn aimed_submit(&mut self, bytes: u64, latency: f64, cap: Option<f64>, time: f64, path: Vec<u32>) -> Option<u32> {
+        let (id, owner) = (self.new_id(), self.owner());
+        let before = self.session.sim.in_flight();
+        self.aimed(Call::Submit { id, owner, bytes, latency, cap, time, path })?;
+        (self.session.sim.in_flight() > before).then_some(id)
+    }
+
+    fn some_bytes(&mut self) -> u64 {
+        self.bytes().clamp(100, 1 << 50)
+    }
+
+    /// The clock as it is; under `whole` moved to a power of two where eps has left its floor, so that eps is one too.
+    fn round_clock(&mut self) -> Option<f64> {
+        if self.profile == Profile::Whole {
+            let next = exponent(self.session.sim.now().max(1024.0)) + 1;
+            self.aimed(Call::Advance { time: 2f64.powi(next), places: AMPLE })?;
+        }
+        Some(self.session.sim.now())
+    }
+}
+
+/// The power of two at or below a normal number.
+fn exponent(value: f64) -> i32 {
+    (value.to_bits() >> 52 & 0x7ff) as i32 - 1023
+}
+
+#[cfg(test)]
+mod tests {
+    use super::*;
+    use copies::TransferView;
+
+    /// The profiles whose scripts of so many lines bring some transfer there.
+    fn met(lines: usize, place: fn(&TransferView, f64) -> bool) -> Vec<&'static str> {
+        let meets = |profile: Profile| {
+            let mut session = Session::new(copies::patched, false);
+            script(3, lines, profile).iter().any(|line| {
+                session.answer_line(&read_line(line));
+                session.sim.transfers().iter().any(|t| place(t, session.sim.now()))
+            })
+        };
+        PROFILES.iter().filter(|(_, profile)| meets(*profile)).map(|(name, _)| *name).collect()
+    }
+
+    const ALL: [&str; 6] = ["whole", "wild", "plans", "crowd", "wrong", "ties"];
+
+    #[test]
+    fn bytes_left_are_met() {
+        for place in [|t: &TransferView, _| t.bytes == B, |t: &TransferView, _| t.bytes == B.next_up()] {
+            assert_eq!(met(6000, place), ALL[1..]);
+        }
+    }
+
+    #[test]
+    fn time_left_is_met() {
+        assert_eq!(met(6000, |t, clock| t.rate > 0.0 && t.bytes / t.rate == eps_at(clock)), ALL);
+        assert_eq!(met(6000, |t, clock| t.rate > 0.0 && t.bytes / t.rate == eps_at(clock).next_up()), ALL[1..]);
+    }
+
+    #[test]
+    fn latency_left_is_met() {
+        assert_eq!(met(6000, |t, clock| t.latency == eps_at(clock)), ALL);
+        assert_eq!(met(6000, |t, clock| t.latency == eps_at(clock).next_up()), ALL[1..]);
+    }
+}
