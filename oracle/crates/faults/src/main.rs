@@ -141,8 +141,12 @@ fn caught(make: Maker, runs: &[Run]) -> impl Iterator<Item = String> + '_ {
     runs.iter().filter_map(move |run| caught_at(make, run).map(|call| format!("{} {call}", run.name)))
 }
 
+/// A right copy needs some hundred steps at the most.
+const MOST_STEPS: usize = 2000;
+
 fn caught_at(make: Maker, run: &Run) -> Option<usize> {
     let mut session = Session::new(make, false);
+    session.most_steps = MOST_STEPS;
     for (i, line) in run.lines.iter().enumerate() {
         let answer = catch_unwind(AssertUnwindSafe(|| session.answer_line(line)));
         if answer.map_or(true, |answer| mark(&answer) != run.marks[i]) {

@@ -26,11 +26,13 @@ pub struct Session {
     cancelled: [u64; 3],
     /// Leaves slots and rounds out, for a copy that has none.
     common: bool,
+    /// More steps in one `run_until` or `finish` are a panic: a faulty copy may step on for ever.
+    pub most_steps: usize,
 }
 
 impl Session {
     pub fn new(make: Maker, common: bool) -> Session {
-        Session { make, sim: make(), completed: [0; 3], cancelled: [0; 3], common }
+        Session { make, sim: make(), completed: [0; 3], cancelled: [0; 3], common, most_steps: usize::MAX }
     }
 
     /// The same session once more, to try a call on.
@@ -91,7 +93,7 @@ impl Session {
     fn accepted(&mut self, call: &Call) -> String {
         match call {
             Call::New => {
-                *self = Session::new(self.make, self.common);
+                *self = Session { most_steps: self.most_steps, ..Session::new(self.make, self.common) };
                 "done".to_string()
             }
             Call::AddEdge { capacity } => format!("edge {}", self.sim.add_edge(plus_zero(*capacity))),
@@ -193,6 +195,8 @@ impl Session {
 
     /// One advance with a buffer that is always long enough; whether it lists somebody.
     fn step(&mut self, to: f64, steps: &mut Steps) -> bool {
+        steps.count += 1;
+        assert!(steps.count <= self.most_steps, "no end of steps");
         let entries = self.who_is_done(to);
         self.tally_completed(&entries);
         steps.stuck = entries.is_empty();
@@ -297,6 +301,7 @@ impl Session {
 /// What `run_until` and `finish` have listed, and whether their last step listed nobody.
 #[derive(Default)]
 struct Steps {
+    count: usize,
     lines: Vec<String>,
     stuck: bool,
 }
