@@ -37,7 +37,7 @@ pub fn profile(name: &str) -> Option<Profile> {
     PROFILES.iter().find(|(n, _)| *n == name).map(|(_, profile)| *profile)
 }
 
-/// `count` lines, each sequence from a `new` to a `dump`.
+/// `count` lines, each sequence from a `new` to a `dump`, some with a `finish` behind it.
 pub fn script(seed: u64, count: usize, profile: Profile) -> Vec<String> {
     let mut generator = Generator::new(seed, profile);
     while generator.lines.len() < count {
@@ -68,9 +68,11 @@ enum Kind {
     Edge,
     Counts,
     Dump,
+    RunUntil,
+    Finish,
 }
 
-const KINDS: [Kind; 18] = [
+const KINDS: [Kind; 20] = [
     Kind::Submit,
     Kind::Advance,
     Kind::Cancel,
@@ -89,13 +91,15 @@ const KINDS: [Kind; 18] = [
     Kind::Edge,
     Kind::Counts,
     Kind::Dump,
+    Kind::RunUntil,
+    Kind::Finish,
 ];
 
-const USUAL: [usize; 18] = [44, 40, 10, 6, 4, 8, 5, 14, 10, 9, 5, 11, 7, 4, 3, 7, 5, 4];
+const USUAL: [usize; 20] = [44, 40, 10, 6, 4, 8, 5, 14, 10, 9, 5, 11, 7, 4, 3, 7, 5, 4, 8, 1];
 /// More submissions than completions.
-const BUSY: [usize; 18] = [90, 30, 10, 6, 4, 8, 5, 12, 10, 9, 5, 11, 7, 4, 3, 7, 5, 4];
-/// Many submissions, few completions, and dumps seldom, for they are long.
-const CROWDED: [usize; 18] = [400, 60, 12, 4, 4, 10, 8, 16, 12, 8, 5, 14, 8, 8, 4, 8, 6, 2];
+const BUSY: [usize; 20] = [90, 30, 10, 6, 4, 8, 5, 12, 10, 9, 5, 11, 7, 4, 3, 7, 5, 4, 8, 2];
+/// Many submissions, few completions, and dumps seldom, for they are long; a crowd that is finished is none.
+const CROWDED: [usize; 20] = [400, 60, 12, 4, 4, 10, 8, 16, 12, 8, 5, 14, 8, 8, 4, 8, 6, 2, 10, 0];
 
 /// Small numbers, and beside them numbers with many divisors: more of their shares come out whole.
 const WHOLE_CAPACITIES: [&[f64]; 2] = [
@@ -187,6 +191,9 @@ impl Generator {
         if length > 1 {
             self.emit(Call::Dump.to_string());
         }
+        if self.random.chance(if self.profile == Profile::Crowd { 100 } else { 30 }) && self.offer(Call::Finish) {
+            self.emit(Call::Counts.to_string());
+        }
         self.lines.truncate(start + room);
     }
 
@@ -266,6 +273,8 @@ impl Generator {
             Kind::Edge => Call::Edge { edge: self.edge() },
             Kind::Counts => Call::Counts,
             Kind::Dump => Call::Dump,
+            Kind::RunUntil => Call::RunUntil { time: self.time_ahead() },
+            Kind::Finish => Call::Finish,
         }
     }
 
@@ -422,6 +431,13 @@ impl Generator {
         time.clamp(clock, LATEST.max(clock))
     }
 
+    /// As `time`, or some steps further, past several completions.
+    fn time_ahead(&mut self) -> f64 {
+        let time = self.time();
+        let further = self.random.below(4) as f64 * (time - self.session.sim.now());
+        (time + further).min(LATEST)
+    }
+
     /// When the next transfer will be done, asked of a copy: asking must not fill.
     fn next_done(&mut self) -> Option<f64> {
         let sim = &self.session.sim;
@@ -534,7 +550,7 @@ impl Generator {
     fn wrong_line(&mut self) -> String {
         let kind = KINDS[self.random.weighted(&USUAL)];
         // A call without arguments can only be misspelt.
-        let bare = matches!(kind, Kind::Delay | Kind::Rounds | Kind::Now | Kind::Counts | Kind::Dump);
+        let bare = matches!(kind, Kind::Delay | Kind::Rounds | Kind::Now | Kind::Counts | Kind::Dump | Kind::Finish);
         if bare || self.random.chance(5) {
             return self.malformed();
         }
@@ -573,6 +589,7 @@ impl Generator {
                 0..=4 => *time = bad_time,
                 _ => *places = self.random.below(3),
             },
+            Call::RunUntil { time } => *time = bad_time,
             Call::EstimateNew { bytes, latency, cap, path } => match pick {
                 0 | 1 => *bytes = bad,
                 2 => *latency = f64::from_bits(SPECIAL[7 + self.random.below(6)]),

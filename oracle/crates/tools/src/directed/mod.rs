@@ -5,6 +5,7 @@ mod fillings;
 mod limits;
 mod orders;
 mod refusals;
+mod steps;
 mod tolerance;
 
 use crate::script::{hex, read_line, write_double, write_path};
@@ -25,6 +26,7 @@ pub fn scripts() -> Vec<(&'static str, Vec<String>)> {
         ("drain-time", tolerance::drain_time()),
         ("latency-left", tolerance::latency_left()),
         ("next-done", tolerance::next_done()),
+        ("steps", steps::steps()),
         ("equal-caps", orders::equal_caps()),
         ("clamp", orders::clamp()),
         ("refusals", refusals::refusals()),

@@ -178,10 +178,23 @@ fn infinite_delay(b: &mut Book) {
 
 /// Next-done lies at the clock and nothing is listed: polling drains have rounded the bytes. The delay stays 0.
 fn stuck_at_zero(b: &mut Book) {
+    let (lines, next) = stalled();
+    b.begin("a delay that stays 0 after drains by polling");
+    lines.iter().for_each(|line| drop(b.say(line)));
+    b.expect(&format!("advance {} 768", hex(next)), "list 0 tail-kept");
+    b.expect("next_completion_delay", &after(0.0));
+    b.say("dump");
+    // A step further next-done lies before the clock, and the delay is 0 all the same.
+    b.expect(&format!("advance {} 768", hex(next.next_up())), "list 0 tail-kept");
+    b.expect("next_completion_delay", &after(0.0));
+    b.say("dump");
+}
+
+/// Calls behind which an advance to next-done, and one a step further, list nobody; and that next-done.
+pub(super) fn stalled() -> (Vec<String>, f64) {
     let mut random = Random::new(40);
     for _ in 0..20_000 {
         let mut trial = Book::new();
-        trial.begin("a delay that stays 0 after drains by polling");
         // Many bytes, so that what is left over lies above B.
         let bytes = random.between(1 << 40, (1 << 41) - 1);
         trial.say(&format!("add_edge {}", hex(bytes as f64 / random.between(2100, 4000) as f64)));
@@ -193,16 +206,12 @@ fn stuck_at_zero(b: &mut Book) {
             trial.say(&format!("advance {} 768", 32 * poll));
             trial.say("estimate_remaining 1");
         }
-        let last = trial.say(&format!("advance {} 768", hex(next)));
-        let delay = trial.say("next_completion_delay");
-        trial.say("dump");
-        // A step further next-done lies before the clock, and the delay is 0 all the same.
-        let further = trial.say(&format!("advance {} 768", hex(next.next_up())));
-        let late = trial.say("next_completion_delay");
-        if [last, further] == ["list 0 tail-kept"; 2] && [delay, late] == [after(0.0), after(0.0)] {
-            trial.say("dump");
-            b.lines.extend(trial.lines);
-            return;
+        let lines = trial.lines.clone();
+        let stands = |trial: &mut Book, time: f64| {
+            trial.say(&format!("advance {} 768", hex(time))) == "list 0 tail-kept" && trial.say("next_completion_delay") == after(0.0)
+        };
+        if stands(&mut trial, next) && stands(&mut trial, next.next_up()) {
+            return (lines, next);
         }
     }
     panic!("no stall found");
