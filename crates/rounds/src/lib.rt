@@ -12,6 +12,7 @@ ghost use Rattle.rules.specs.Records.{own-path};
 ghost use Rattle.rules.specs.Filling.{tightest, freezes, spend, smallest-cap};
 ghost use Rattle.rules.specs.Filling.{winning-edge as the-winning-edge, tighter as the-tighter, share as the-share};
 ghost use Rattle.rules.specs.Filling.{verdict as the-verdict, rate-by as the-rate-by, names as the-names, freeze as the-freeze};
+ghost use Rattle.caps.specs.Order.{frozen-front};
 ghost use Rattle.caps.specs.Listed.{listed, Passed};
 ghost use Rattle.rounds.specs.Standing.{filling, Freezable, Standing, Coming, Frozen};
 
@@ -86,6 +87,7 @@ pub fn decide(f: Scratch, order: CapOrder) -> Decision
     requires standing { ⌜ Standing f ⌝ }
     requires coming { ⌜ Coming order f ⌝ }
     ensures verdict { λ r. ⌜ r .verdict ≡ the-verdict (smallest-cap (filling f)) (the-winning-edge own-path (filling f)) ⌝ }
+    ensures cursor { λ r. ⌜ r .cursor ≡ frozen-front (f .seats) (listed order) ⌝ }
     ensures passed { λ r. ⌜ Passed (f .seats) (listed order) (r .cursor) ⌝ }
 {
     let seats = f.seats;

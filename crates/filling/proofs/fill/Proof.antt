@@ -30,10 +30,10 @@ round-requires : tie.Need-round-requires Inv-loop μ-loop
 round-requires c κs = (c .before .before .before .before .loop .inv .standing, omega (arith, c .before .before .before .before .loop .inv .few, c .before .before .if1 .taken))
 
 loop-less : tie.Need-loop-less Inv-loop μ-loop
-loop-less c = round-fewer (c .before .before .before .before .before .before .args .start) (c .before .before .before .before .before .before .args .order) (c .before .before .before .before .before .before .pre .0) (c .before .before .before .before .before .before .pre .1) (c .before .before .before .before .before .loop .f) (c .before .before .before .before .before .loop .inv) (c .before .before .before .if1 .taken) (c .before .before .decide .result .verdict) (c .before .before .decide .result .cursor) (c .before .before .decide .ensures .0) (c .before .before .decide .ensures .1) (c .round .result) (c .round .ensures)
+loop-less c = round-fewer (c .before .before .before .before .before .before .args .start) (c .before .before .before .before .before .before .args .order) (c .before .before .before .before .before .before .pre .0) (c .before .before .before .before .before .before .pre .1) (c .before .before .before .before .before .loop .f) (c .before .before .before .before .before .loop .inv) (c .before .before .before .if1 .taken) (c .before .before .decide .result .verdict) (c .before .before .decide .result .cursor) (c .before .before .decide .ensures .0) (c .before .before .decide .ensures .1 .1) (c .round .result) (c .round .ensures)
 
 loop-again : tie.Need-loop-again Inv-loop μ-loop
-loop-again c = running-on (c .before .before .before .before .before .before .args .start) (c .before .before .before .before .before .before .args .order) (c .before .before .before .before .before .before .pre .0) (c .before .before .before .before .before .before .pre .1) (c .before .before .before .before .before .loop .f) (c .before .before .before .before .before .loop .inv) (c .before .before .before .if1 .taken) (c .before .before .decide .result .verdict) (c .before .before .decide .result .cursor) (c .before .before .decide .ensures .0) (c .before .before .decide .ensures .1) (c .round .result) (c .round .ensures)
+loop-again c = running-on (c .before .before .before .before .before .before .args .start) (c .before .before .before .before .before .before .args .order) (c .before .before .before .before .before .before .pre .0) (c .before .before .before .before .before .before .pre .1) (c .before .before .before .before .before .loop .f) (c .before .before .before .before .before .loop .inv) (c .before .before .before .if1 .taken) (c .before .before .decide .result .verdict) (c .before .before .decide .result .cursor) (c .before .before .decide .ensures .0) (c .before .before .decide .ensures .1 .1) (c .round .result) (c .round .ensures)
 
 returns : tie.Need-returns Inv-loop μ-loop
 returns c = sym (no-more-rounds own-path own-path-kept (filling (c .before .before .loop .f)) (omega (arith, c .before .before .loop .inv .standing .counted, c .if1 .left))) ∙ c .before .before .loop .inv .same
