@@ -4,12 +4,12 @@ ghost use mathlib.Core.Path.{_≡_};
 ghost use lib.ListN.{length};
 ghost use Rattle.rules.specs.Histories.{call as the-call};
 ghost use Rattle.rules.specs.Invariant.{Invariant};
-use asked::Ask;
+use session_asked::Ask;
 use libc::STDIN_FILENO;
-use pages::put_text;
+use session_pages::put_text;
 use rules::Call;
 use rules::Flows;
-use words::Line;
+use session_words::Line;
 
 // The simulator, and where the next answer goes on the page.
 struct Next {
@@ -66,7 +66,7 @@ fn run_script(fd: i32, name: &[u8]) {
     let flows = now.flows;
     let line = now.line;
     let last = ended(flows, line, &text, &mut page, 0);
-    fields::write_out(&page, last.at);
+    session_fields::write_out(&page, last.at);
 }
 
 // Reads once, answers every line that ends in what was read, and writes the answers out before it is waited for more.
@@ -142,7 +142,7 @@ fn lines(now: Between, bytes: &[u8], text: &mut [u8; 4096], page: &mut [u8; 6553
         line = Line::new();
         i = start;
     }
-    fields::write_out(page, at);
+    session_fields::write_out(page, at);
     Between {
         flows,
         line,
@@ -177,7 +177,7 @@ fn ended(flows: Flows, line: Line, text: &[u8; 4096], page: &mut [u8; 65536], at
     if len == 0 {
         return Next { flows, at };
     }
-    let at = fields::room(page, at);
+    let at = session_fields::room(page, at);
     if line.long {
         let at = put_text(page, at, b"malformed\n");
         return Next { flows, at };
@@ -193,7 +193,7 @@ fn answered(flows: Flows, text: &[u8], len: usize, page: &mut [u8; 65536], at: u
     ensures { λ r. ⌜ r .at ≤ 65536 ⌝ }
 {
     let mut path = [0u32; 128];
-    let request = asked::read(&text[..len], &mut path);
+    let request = session_asked::read(&text[..len], &mut path);
     let ask = request.ask;
     match ask {
         Ask::Malformed => {
@@ -212,7 +212,7 @@ fn answered(flows: Flows, text: &[u8], len: usize, page: &mut [u8; 65536], at: u
             made(flows, call, &path[..hops], &mut lent[..places], page, at)
         }
         Ask::RunUntil(time) => {
-            let walked = stepping::run_until(flows, time, page, at);
+            let walked = session_stepping::run_until(flows, time, page, at);
             let flows = walked.flows;
             Next {
                 flows,
@@ -220,7 +220,7 @@ fn answered(flows: Flows, text: &[u8], len: usize, page: &mut [u8; 65536], at: u
             }
         }
         Ask::Finish => {
-            let walked = stepping::finish(flows, page, at);
+            let walked = session_stepping::finish(flows, page, at);
             let flows = walked.flows;
             Next {
                 flows,
@@ -228,7 +228,7 @@ fn answered(flows: Flows, text: &[u8], len: usize, page: &mut [u8; 65536], at: u
             }
         }
         Ask::See(look) => {
-            let at = told::look(flows, look, page, at);
+            let at = session_told::look(flows, look, page, at);
             Next { flows, at }
         }
     }
@@ -251,7 +251,7 @@ fn made(
 {
     let made = flows::make(flows, call, path, lent);
     let said = made.said;
-    let at = told::said(said, told::width(call), lent, page, at);
+    let at = session_told::said(said, session_told::width(call), lent, page, at);
     let flows = made.flows;
     Next { flows, at }
 }

@@ -1,4 +1,4 @@
-//! double_table: on standard input the table of bit patterns that the crate doubles_table runs on, on standard output the Rust's answers.
+//! double_table: on standard input the table of bit patterns that the crate test_doubles_table runs on, on standard output the Rust's answers.
 //! A line of the table is a letter and sixteen hexadecimal digits: b a pattern, p a member of the pairs, w a count.
 
 use std::io::Read;
