@@ -1,5 +1,8 @@
-// Numbers, caps and paths as a caller hands them over: whether they can be taken, and how they are read.
+// Numbers, caps and paths as a caller hands them over: whether they can be taken, how they are read, and the refusal where not.
+use rules::Answer;
 use rules::Cap;
+use rules::Flows;
+use rules::Outcome;
 use rules::Route;
 ghost use Prim.Native.Nat.{_≤_};
 ghost use mathlib.Core.Path.{_≡_};
@@ -7,7 +10,7 @@ ghost use lib.Dec.{leb};
 ghost use lib.ListN.{length};
 ghost use Rattle.rules.specs.Lists.{any};
 ghost use Rattle.rules.specs.Records.{route};
-ghost use Rattle.rules.specs.Refusals.{not-finite, not-an-amount, not-a-time, not-a-cap, read-cap};
+ghost use Rattle.rules.specs.Refusals.{refused, not-finite, not-an-amount, not-a-time, not-a-cap, read-cap};
 
 // A NaN or an infinity.
 pub fn not_finite(x: f64) -> bool
@@ -87,4 +90,14 @@ pub fn wide(x: u32) -> usize
     ensures { λ r. ⌜ r ≡ x ⌝ }
 {
     x as usize
+}
+
+// A refusal leaves the simulator as it was.
+pub fn refused(flows: Flows, number: u32) -> Outcome
+    ensures { λ r. ⌜ r ≡ refused flows number ⌝ }
+{
+    Outcome {
+        answer: Answer::Refused(number),
+        flows: flows,
+    }
 }

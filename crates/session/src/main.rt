@@ -4,11 +4,11 @@ ghost use mathlib.Core.Path.{_≡_};
 ghost use lib.ListN.{length};
 ghost use Rattle.rules.specs.Histories.{call as the-call};
 ghost use Rattle.rules.specs.Invariant.{Invariant};
-use session_asked::Ask;
 use libc::STDIN_FILENO;
-use session_pages::put_text;
 use rules::Call;
 use rules::Flows;
+use session_asked::Ask;
+use session_pages::put_text;
 use session_words::Line;
 
 // The simulator, and where the next answer goes on the page.

@@ -2,14 +2,14 @@
 ghost use Prim.Native.Nat.{_≤_};
 ghost use lib.ListN.{length};
 ghost use Rattle.session_asked.specs.Request.{Within};
-use session_numbers::Long;
-use session_numbers::RealWord;
-use session_numbers::Short;
 use rules::Call;
 use rules::Cap;
 use rules::Estimate;
 use rules::Owner;
 use rules::Submission;
+use session_numbers::Long;
+use session_numbers::RealWord;
+use session_numbers::Short;
 
 // What a line asks for: a call of the simulator, or what the program makes of several, or of none.
 pub enum Ask {

@@ -1,14 +1,6 @@
 // The whole state as text. Nothing is filled or drained for it.
 ghost use Prim.Native.Nat.{_+_, _≤_};
 ghost use Rattle.rules.specs.Invariant.{Invariant};
-use session_fields::named;
-use session_fields::room;
-use session_fields::spaced;
-use session_fields::spaced_double;
-use session_fields::spaced_owner;
-use session_fields::spaced_short;
-use session_fields::tally;
-use session_pages::put_text;
 use rules::Cap;
 use rules::Clock;
 use rules::Completion;
@@ -19,6 +11,14 @@ use rules::Route;
 use rules::Tally;
 use rules::Totals;
 use rules::Transfer;
+use session_fields::named;
+use session_fields::room;
+use session_fields::spaced;
+use session_fields::spaced_double;
+use session_fields::spaced_owner;
+use session_fields::spaced_short;
+use session_fields::tally;
+use session_pages::put_text;
 
 pub fn dump(flows: Flows, page: &mut [u8; 65536], at: usize) -> usize
     requires { ⌜ Invariant flows ⌝ }

@@ -5,11 +5,11 @@ ghost use Prim.Native.Nat.{_+_, _≤_};
 ghost use lib.ListN.{length};
 pub use page::room;
 pub use page::write_out;
+use rules::Owner;
+use rules::Tally;
 use session_pages::put_double;
 use session_pages::put_number;
 use session_pages::put_text;
-use rules::Owner;
-use rules::Tally;
 
 pub fn spaced(page: &mut [u8; 65536], at: usize, n: u64) -> usize
     requires { ⌜ at ≤ 65500 ⌝ }

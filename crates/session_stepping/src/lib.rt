@@ -2,14 +2,14 @@
 ghost use Prim.Native.Nat.{_≤_};
 ghost use lib.ListN.{length};
 ghost use Rattle.rules.specs.Invariant.{Invariant};
-use session_fields::room;
-use session_fields::spaced;
-use session_pages::put_double;
-use session_pages::put_text;
 use rules::Answer;
 use rules::Delay;
 use rules::Flows;
 use rules::NextDone;
+use session_fields::room;
+use session_fields::spaced;
+use session_pages::put_double;
+use session_pages::put_text;
 use session_told::entries;
 use session_told::remark;
 

@@ -4,6 +4,13 @@ ghost use mathlib.Core.Path.{_≡_};
 ghost use lib.ListN.{length};
 ghost use Rattle.rules.specs.Invariant.{Invariant};
 ghost use Rattle.flows.specs.Fits.{width-of, Fits, FitsSaid};
+use rules::Answer;
+use rules::Call;
+use rules::Delay;
+use rules::Edge;
+use rules::EdgeRead;
+use rules::Flows;
+use rules::Said;
 use session_asked::Look;
 use session_dumps::dump;
 use session_fields::named;
@@ -15,13 +22,6 @@ use session_pages::put_double;
 use session_pages::put_fixed;
 use session_pages::put_text;
 use session_pages::readable;
-use rules::Answer;
-use rules::Call;
-use rules::Delay;
-use rules::Edge;
-use rules::EdgeRead;
-use rules::Flows;
-use rules::Said;
 
 // ---- calls
 

@@ -9,7 +9,7 @@ ghost use mathlib.Core.Path.{_≡_};
 ghost use lib.Dec.{T, eqb};
 ghost use Rattle.doubles.specs.Doubles.{_≼_};
 ghost use Rattle.rules.specs.Records.{num-in-flight, tally-of};
-ghost use Rattle.rules.specs.Refusals.{refused, is-full};
+ghost use Rattle.rules.specs.Refusals.{is-full};
 ghost use Rattle.rules.specs.Invariant.{ClockTime, Invariant};
 ghost use Rattle.starting.specs.Started.{inserted, started, start};
 
@@ -21,14 +21,14 @@ pub fn start(flows: Flows, transfer: Transfer, bytes: u64) -> Outcome
     ensures { λ r. ⌜ r ≡ start transfer bytes flows ⌝ }
 {
     if totals::contains(flows, transfer.id) {
-        return refused(flows, 6);
+        return arguments::refused(flows, 6);
     }
     if is_full(flows) {
-        return refused(flows, 7);
+        return arguments::refused(flows, 7);
     }
     let owner = transfer.owner;
     if has_last_number(flows, owner) {
-        return refused(flows, 9);
+        return arguments::refused(flows, 9);
     }
     let after = started(flows, transfer, bytes);
     Outcome {
@@ -85,14 +85,4 @@ fn inserted(flows: Flows, transfer: Transfer) -> Flows
         after.totals.peak_in_flight = n;
     }
     after
-}
-
-// A refusal leaves the simulator as it was.
-pub fn refused(flows: Flows, number: u32) -> Outcome
-    ensures { λ r. ⌜ r ≡ refused flows number ⌝ }
-{
-    Outcome {
-        answer: Answer::Refused(number),
-        flows: flows,
-    }
 }

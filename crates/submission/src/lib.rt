@@ -46,19 +46,19 @@ pub fn submit_capped(
     ensures sound { λ r. ⌜ Invariant (r .flows) ⌝ }
 {
     if not_numbers(latency, rate_cap, time) {
-        return starting::refused(flows, 1);
+        return arguments::refused(flows, 1);
     }
     if time < flows.clock.now {
-        return starting::refused(flows, 2);
+        return arguments::refused(flows, 2);
     }
     if arguments::names_no_edge(path, flows.num_edges) {
-        return starting::refused(flows, 3);
+        return arguments::refused(flows, 3);
     }
     if 8 < path.len() {
-        return starting::refused(flows, 4);
+        return arguments::refused(flows, 4);
     }
     if 9007199254740992 < bytes {
-        return starting::refused(flows, 5);
+        return arguments::refused(flows, 5);
     }
     let transfer = submitted_transfer(id, owner, path, bytes, latency, rate_cap, time);
     starting::start(flows, transfer, bytes)
