@@ -5,7 +5,7 @@ use mathlib.Core.Bool.{false, not}
 use lib.Dec.{T, leb}
 use lib.Ieee.{nan, lt, eq, ofInt, ofBits, round}
 use Rattle.doubles.specs.Doubles.{nought, infinity, whole, nearest, larger, smaller, read-zero, is-finite, of-bits, bits-of}
-use Rattle.doubles.specs.Exact.{places, scaled, exact-in, step-in, slack-in, exact, step, slack}
+use Rattle.doubles.specs.Exact.{places, scaled, exact-in, exact, step, slack}
 
 -- ---- the helpers
 larger-either-way : (larger nought infinity ≡ infinity) × (larger infinity nought ≡ infinity)
@@ -43,14 +43,14 @@ exact-largest = refl
 
 -- ---- the step: 2^53 + 1 is a tie, which half a step reaches and a quarter does not
 half-step-reaches : T (leb (2 * ((2 ^ 53 + 1) * 2 ^ 1126)) (2 * exact (nearest (2 ^ 53 + 1) 1) + step ((2 ^ 53 + 1) * 2 ^ 1126)))
-unfolding exact-in scaled places step-in round
+unfolding exact-in scaled places step round
 half-step-reaches = tt
 
 quarter-step-falls-short : T (not (leb (2 * ((2 ^ 53 + 1) * 2 ^ 1126)) (2 * exact (nearest (2 ^ 53 + 1) 1) + step ((2 ^ 53 + 1) * 2 ^ 1126) / 2)))
-unfolding exact-in scaled places step-in round
+unfolding exact-in scaled places step round
 quarter-step-falls-short = tt
 
--- one rounding has two steps of slack
+-- an edge that is crossed once has two steps of slack
 slack-of-one : slack 1 0 ≡ 2 * 2 ^ 52
-unfolding slack-in step-in
+unfolding step
 slack-of-one = refl

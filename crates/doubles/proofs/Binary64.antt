@@ -7,7 +7,8 @@ use lib.Dec.{T}
 use lib.Ieee.{Float, binary64, ofInt, ofBits}
 use lib.Ieee.Scale.{finite}
 use Rattle.doubles.specs.Doubles.{_⊖_, _⊗_, _⊘_, _≺_, _≼_, nought, whole, nearest, larger, Plain, Nonneg}
-use Rattle.doubles.specs.Exact.{places, one, step-in, slack-in, exact, step, slack}
+use Rattle.doubles.specs.Exact.{places, one, exact, step}
+use Rattle.doubles.proofs.Units.{step-in}
 use Rattle.doubles.proofs.Rounded.{rounded-within}
 use Rattle.doubles.proofs.Quotient.{count-plain, count-exact, quotient-plain, quotient-le, quotient-within, quotient-mono}
 use Rattle.doubles.proofs.Left.{Step, left-plain, left-le, left-step}
@@ -17,14 +18,6 @@ use Rattle.doubles.proofs.Signs.{nearest-nonneg, product-above-nonneg, 
 pub one64 : one binary64 ≡ 2 ^ 1126
 unfolding one places
 one64 = refl
-
-pub step64 : (c : ℕ) → step c ≡ c / 2 ^ 52 + 2 ^ 52
-unfolding step-in
-step64 c = omega arith
-
-pub slack64 : (k c : ℕ) → slack k c ≡ suc k * (c / 2 ^ 52 + 2 ^ 52)
-unfolding slack-in step-in
-slack64 k c = omega arith
 
 -- ---- counts
 pub whole-plain : (n : ℕ) → n ≤ 2 ^ 53 → Plain (whole n)
@@ -55,6 +48,7 @@ module _ {x : Float} (p : Plain x) (l : ℕ) (L : 0 < l) (M : l ≤ 2 ^ 53) wher
 
   pub over-count-within : (C : ℕ) → C / 2 ^ 52 * 2 ^ 52 ≡ C → exact x ≤ C
       → (2 * (exact (x ⊘ whole l) * l) ≤ 2 * exact x + l * step C) × (2 * exact x ≤ 2 * (exact (x ⊘ whole l) * l) + l * step C)
+  unfolding step step-in
   over-count-within C e h = quotient-within p l L M C e h
 
 pub over-count-mono : {x y : Float} → Plain x → Plain y → (k l : ℕ) → 0 < k → k ≤ 2 ^ 53 → 0 < l → l ≤ 2 ^ 53 → exact x * l ≤ exact y * k → T (x ⊘ whole k ≼ y ⊘ whole l)
@@ -71,7 +65,7 @@ module _ {x y : Float} where
   left-of-le p q = left-le p q
 
   pub left-of-step : Plain x → Plain y → (C : ℕ) → C / 2 ^ 52 * 2 ^ 52 ≡ C → exact x ≤ C → Step (step C) (exact x) (exact y) (exact (larger (x ⊖ y) nought))
-  unfolding ofBits
+  unfolding ofBits step step-in
   left-of-step p q C e h = left-step p q C e h
 
   -- the same where the minuend may be infinite

@@ -10,9 +10,9 @@ use lib.Dec.{T}
 use lib.Pow.{pow-pos}
 use lib.Ieee.{Float, Format, prec, low, sub, lt, le, hid}
 use Rattle.doubles.specs.Doubles.{larger, PlainIn}
-use Rattle.doubles.specs.Exact.{one, exact-in, step-in}
+use Rattle.doubles.specs.Exact.{one, exact-in}
 use Rattle.doubles.proofs.Tests.{le-or-above}
-use Rattle.doubles.proofs.Units.{one-split, exact-whole}
+use Rattle.doubles.proofs.Units.{step-in, one-split, exact-whole}
 use Rattle.doubles.proofs.Ordered.{lt→exact, exact→le}
 use Rattle.doubles.proofs.Rounded.{exact-round, rounded, over-pos, rounded-within, rounded-le, plain-finite}
 use Rattle.doubles.proofs.Same.{zero-float, zero-plain, zero-exact}

@@ -13,8 +13,8 @@ use lib.Ieee.Back.{round-whole}
 use lib.Ieee.Scale.{round-same}
 use lib.Ieee.Positive.{num, den, den-pos, value→cross}
 use Rattle.doubles.specs.Doubles.{plain, PlainIn}
-use Rattle.doubles.specs.Exact.{one, exact-in, step-in}
-use Rattle.doubles.proofs.Units.{plain-of-value, exact-cross}
+use Rattle.doubles.specs.Exact.{one, exact-in}
+use Rattle.doubles.proofs.Units.{step-in, plain-of-value, exact-cross}
 use Rattle.doubles.proofs.Ordered.{exact→le}
 use Rattle.doubles.proofs.Rounded.{rounded, over-pos, rounded-within, rounded-mono, rounded-le, plain-finite}
 

@@ -15,9 +15,9 @@ use lib.Ieee.Exact.{HasValue, odd-sign, round-exact}
 use lib.Ieee.Order.{drop, kept, round-mono}
 use lib.Ieee.Scale.{grid, overflow, finite, round-val, round-under, round-same}
 use Rattle.doubles.specs.Doubles.{plain, PlainIn}
-use Rattle.doubles.specs.Exact.{one, exact-in, step-in}
+use Rattle.doubles.specs.Exact.{one, exact-in}
 use Rattle.doubles.proofs.Closest.{Within, closest-within}
-use Rattle.doubles.proofs.Units.{one-pos, one-split, plain-of-value, held-den, exact-of-value, grid-value}
+use Rattle.doubles.proofs.Units.{step-in, one-pos, one-split, plain-of-value, held-den, exact-of-value, grid-value}
 use Rattle.doubles.proofs.Ordered.{le→exact}
 
 -- ---- in the format's smallest values
@@ -70,10 +70,10 @@ units-within f a c C t =
     (rw y (rw n (w .0)), rw y (rw n (w .1)))
 
 -- where the fraction is at most C, a whole number of the format's smallest values
-capped : (f : Format) (a c C : ℕ) → 0 < c → T (finite (round f false a c)) → C / hid f * hid f ≡ C → a * one f ≤ C * c
+under-the-bound : (f : Format) (a c C : ℕ) → 0 < c → T (finite (round f false a c)) → C / hid f * hid f ≡ C → a * one f ≤ C * c
     → (2 * (exact-in f (round f false a c) * c) ≤ 2 * (a * one f) + c * step-in f C) × (2 * (a * one f) ≤ 2 * (exact-in f (round f false a c) * c) + c * step-in f C)
 unfolding step-in
-capped f a c C P t e h =
+under-the-bound f a c C P t e h =
     let w = units-within f a c P t in
     let n = a * 2 ^ low f in
     let H = hid f in
@@ -96,7 +96,7 @@ pub rounded-within : (f : Format) (A B C : ℕ) → 0 < B → T (finite (rounded
 rounded-within f A B C P t e h =
     let o = one f in
     let y = exact-in f (rounded f A B) in
-    let w = capped f A (B * o) C (over-pos f B P) t e (le-trans (mul-le-mul-right o h) (le-of-eq (mul-assoc C B o))) in
+    let w = under-the-bound f A (B * o) C (over-pos f B P) t e (le-trans (mul-le-mul-right o h) (le-of-eq (mul-assoc C B o))) in
     (le-of-mul-le-mul-right (upper y (step-in f C) o (w .0)) (one-pos f), le-of-mul-le-mul-right (lower y (step-in f C) o (w .1)) (one-pos f))
   where
     upper : (y v o : ℕ) → 2 * (y * (B * o)) ≤ 2 * (A * o) + B * o * v → 2 * (y * B) * o ≤ (2 * A + B * v) * o

@@ -16,6 +16,10 @@ use lib.Ieee.Positive.{num, den, den-pos, value→cross}
 use Rattle.doubles.specs.Doubles.{plain, PlainIn}
 use Rattle.doubles.specs.Exact.{places, one, scaled, exact-in}
 
+-- Twice what one rounding of a value up to c can move, in any format; for a double it is `step`.
+unfoldable pub step-in : Format → ℕ → ℕ
+step-in f c = c / hid f + hid f
+
 -- ---- how many units make one
 pub one-pos : (f : Format) → 0 < one f
 unfolding one

@@ -11,7 +11,7 @@ use lib.Dec.{T, ltb}
 use lib.ListN.{length, getD, List·getD-map}
 use lib.Ieee.{Float}
 use borrow.Author.Tests.{ltb-true, ltb-false}
-use Rattle.doubles.specs.Exact.{exact, slack-in}
+use Rattle.doubles.specs.Exact.{exact}
 use Rattle.rules.specs.declared.Cap.the-variants.{AtMost}
 use Rattle.rules.specs.declared.Edge.{Edge}
 use Rattle.rules.specs.declared.Transfer.{Transfer}
@@ -50,7 +50,7 @@ module _ (path : Transfer → List ℕ) (edges : List Edge) (K : ℕ → ℕ) (f
   k-is e known = k-splits path edges e (f .seats) (fills .demanding) ∙ fills .accounts e known .good .count
 
   slack-counted : (e : ℕ) → slack-of path edges ts e ≡ suc (k path ts e) * step-of edges e
-  unfolding slack-of slack-in C
+  unfolding slack-of C
   slack-counted e = omega arith
 
   slack-is : (e : ℕ) → e < length edges → slack-of path edges ts e ≡ suc (K e) * step-of edges e

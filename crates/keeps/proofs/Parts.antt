@@ -82,7 +82,7 @@ parts inv = record {
   tolerance = inv .tolerance;
   clock = record { time = inv .clock; next = inv .next-done; rounds = inv .rounds-bound };
   edges = record { places = inv .edge-places; few = inv .few-edges; sound = inv .edges; blank = inv .edges-blank };
-  queue = record { places = inv .queue-places; ordered = inv .queue-ordered; blank = inv .queue-blank };
+  queue = record { places = inv .queue-places; ordered = inv .queue-ordered .ordered; blank = inv .queue-blank .blank };
   crowd = record { places = inv .slot-places; ids-differ = inv .ids-differ; path-room = inv .path-room };
   slots = record { each = inv .slots; together = inv .drained-together; stale = inv .stale-drained };
   totals = record { room = inv .room; reached = inv .peak-reached; bound = inv .peak-bound; balanced = inv .balanced };
@@ -106,8 +106,8 @@ joined p = record {
   drained-together = p .slots .together;
   stale-drained = p .slots .stale;
   path-room = p .crowd .path-room;
-  queue-ordered = p .queue .ordered;
-  queue-blank = p .queue .blank;
+  queue-ordered = record { ordered = p .queue .ordered };
+  queue-blank = record { blank = p .queue .blank };
   room = p .totals .room;
   peak-reached = p .totals .reached;
   peak-bound = p .totals .bound;

@@ -66,8 +66,8 @@ counted-keeps totals peak balanced = record {
   drained-together = λ i j a b. untaken i a;
   stale-drained = λ e. absurd (let z : _≡_ {A = ℕ} 0 1 = cc in omega (arith, z));
   path-room = omega arith;
-  queue-ordered = λ i j a b. absurd (omega arith);
-  queue-blank = λ i h. each-same (λ (x : Completion). x ≡ blank-completion) blank-completion 256 blank-completion refl refl i;
+  queue-ordered = record { ordered = λ i j a b. absurd (omega arith) };
+  queue-blank = record { blank = λ i h. each-same (λ (x : Completion). x ≡ blank-completion) blank-completion 256 blank-completion refl refl i };
   room = omega arith;
   peak-reached = omega arith;
   peak-bound = peak;

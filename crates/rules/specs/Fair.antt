@@ -1,4 +1,8 @@
 -- Demand 3: what every filling promises, in exact values. (01, How far each contract reaches) Statement only.
+-- The demand in words. Look at the transfers with more than B bytes left and a path that isn't empty. For an edge let C be its capacity, k how often they cross it in all, repeats
+-- counted, and slack k + 1 times (C / 2^52 + 2^-1074). Then, in exact values: nobody runs above its cap, nor above the capacity of any edge on its path; on every edge their rates, added up
+-- crossing by crossing, are at most C plus slack; everybody runs at exactly its cap, or at no less than C / k minus slack for some edge on its path; and there were at most as many
+-- rounds as there are such transfers. A fraction over k is multiplied out.
 use Prim.Native.Nat.{ℕ, _+_, _*_, _≤_, _<_}
 use mathlib.Core.Path.{_≡_}
 use mathlib.Core.Logic.{_⊎_}

@@ -73,8 +73,8 @@ own-cap i true (AtMost c) = At i c
 unfoldable pub smallest-cap : Filling → Best
 smallest-cap f = tightest (map-from 0 (λ i s. own-cap i (s .unfrozen) (s .transfer .«rate_cap»)) (f .seats))
 
--- The smallest cap wins over the smallest share only where it is strictly below it. With neither there is nobody to freeze, which never
--- happens (`never-by-nobody` in fairness) and stands here because the Rust has the branch. (01, Filling)
+-- The smallest cap wins over the smallest share only where it is strictly below it. With neither there would be nobody to freeze: the Rust stops the filling there, and no filling
+-- comes to it (`never-by-nobody` in fairness). (01, Filling)
 unfoldable pub verdict : Best → Best → Verdict
 verdict Nobody Nobody = ByNobody
 verdict Nobody (At e x) = ByEdge e x
@@ -156,6 +156,6 @@ module _ (path : Transfer → List ℕ) where
   rounds-until zero f = f
   rounds-until (suc n) f = let more = rounds-until n (round f) in cond (eqb (num-unfrozen f) 0) f more
 
-  -- The whole filling. Each round freezes somebody, so one round for each of them is enough. (01, Filling)
+  -- The whole filling. Each round freezes somebody, so a round for each unfrozen is enough: that none is left is promised as `AlwaysEnds` (Promises). (01, Filling)
   unfoldable pub recompute-rates : List Edge → List Transfer → Filling
   recompute-rates edges slots = let f = start edges slots in rounds-until (num-unfrozen f) f

@@ -1,4 +1,5 @@
--- The invariant of a simulator: what holds at the start and after every call. It is the one premise of any contract. (01, How far each contract reaches) Statements only.
+-- The invariant of a simulator: what holds at the start and after every call. It is the one premise of every function that users are handed (crate `flows`); what an inner function asks of a
+-- table or an argument by itself is listed, with its reason, in docs/PREMISES.md. (01, How far each contract reaches) Statements only.
 use Prim.Native.Nat.{ℕ, _+_, _^_, _≤_, _<_}
 use mathlib.Core.Path.{_≡_}
 use mathlib.Core.Logic.{_⊎_}
@@ -16,6 +17,7 @@ use Rattle.rules.specs.declared.NextDone.the-variants.{At, Nobody}
 use Rattle.rules.specs.declared.Edge.{Edge}
 use Rattle.rules.specs.declared.Route.{Route}
 use Rattle.rules.specs.declared.Transfer.{Transfer}
+use Rattle.rules.specs.declared.Completion.{Completion}
 use Rattle.rules.specs.declared.Tally.{Tally}
 use Rattle.rules.specs.declared.Flows.{Flows}
 use Rattle.rules.specs.Lists.{count, sum, Each}
@@ -25,7 +27,7 @@ use Rattle.rules.specs.Clock.{edge-loads}
 
 -- ---- doubles
 
--- A running sum of amounts up to 2^53: it stalls at 2^107, where adding such an amount no longer changes it.
+-- A running sum of amounts up to 2^53: it stays within 2^107, where adding such an amount no longer changes it.
 pub record Summed (x : Float) : Type 0 where
   pub plain : Plain x
   pub bounded : T (x ≼ whole (2 ^ 107))
@@ -88,6 +90,16 @@ pub record Balanced (slots : List Transfer) (owner : Owner) (y : Tally) : Type 0
   pub fits : y .submitted < 2 ^ 64
   pub bytes : Summed (y .«bytes_submitted»)
 
+-- ---- the queue
+
+-- The first n places of a table are in order of owner and id, and so hold nothing twice. (01, Clock)
+pub record InOrder (n : ℕ) (table : List Completion) : Type 0 where
+  pub ordered : (i j : ℕ) → i < j → j < n → before (getD table i blank-completion) (getD table j blank-completion) ≡ true
+
+-- Every place of a table from n on is blank. (01, Sizes)
+pub record BlankBehind (n : ℕ) (table : List Completion) : Type 0 where
+  pub blank : (i : ℕ) → n ≤ i → getD table i blank-completion ≡ blank-completion
+
 -- ---- the simulator
 
 -- What every simulator that calls have answered keeps, a fact to a line.
@@ -110,11 +122,11 @@ pub record Invariant (f : Flows) : Type 0 where
   -- all have been drained up to one time, and while rates are stale that time is the clock's
   pub drained-together : (i j : ℕ) → getD (f .«in_flight») i free .taken ≡ true → getD (f .«in_flight») j free .taken ≡ true → getD (f .«in_flight») i free .«last_update» ≡ getD (f .«in_flight») j free .«last_update»
   pub stale-drained : f .clock .«rates_dirty» ≡ true → Each (λ t. t .taken ≡ true → t .«last_update» ≡ f .clock .now) free (f .«in_flight»)
-  -- the paths in flight have at most 2,048 entries together
+  -- the paths in flight have at most 2,048 entries together, which eight for each of 256 come to
   pub path-room : sum (map (λ t. length (path-of f t)) (f .«in_flight»)) ≤ 2048
   -- the queue: in order, so no entry twice, and blank behind
-  pub queue-ordered : (i j : ℕ) → i < j → j < f .«num_completed» → before (getD (f .completed) i blank-completion) (getD (f .completed) j blank-completion) ≡ true
-  pub queue-blank : (i : ℕ) → f .«num_completed» ≤ i → getD (f .completed) i blank-completion ≡ blank-completion
+  pub queue-ordered : InOrder (f .«num_completed») (f .completed)
+  pub queue-blank : BlankBehind (f .«num_completed») (f .completed)
   -- room, peak and tallies
   pub room : num-in-flight f + f .«num_completed» ≤ max-slots
   pub peak-reached : num-in-flight f ≤ f .totals .«peak_in_flight»

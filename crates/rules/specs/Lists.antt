@@ -1,5 +1,10 @@
 -- The few words on lists that the rules are written with. Definitions only.
--- A branch that recurses is bound by `let`, which is computed only when it is read; under `cond` alone both branches would be.
+-- The words of the logic that every file uses:
+--   `cond b x y` is x where b is true and y where it is false. `let` binds a branch that recurses, since a `let` is computed only when it is read.
+--   `T b` is the statement that the test b is true. `a ≡ b` is the statement that two things are equal; `eqb`, `ltb`, `leb` are tests of numbers: =, <, ≤.
+--   `getD xs i d` is element i of a list, the first being number 0, and d past its end. `x ∷ xs` is a list by its first element and the rest; `xs ++ ys` is one behind the other.
+--   `t .rate` is the field `rate` of t. `record { .. }` is a struct by all its fields. `λ x. ..` is the function of x.
+--   `unfoldable` marks a definition that proofs open by name, `abbrev` one that is always open: a reader can take both as "is defined as".
 use Prim.Native.Nat.{ℕ, zero, suc, _+_}
 use mathlib.Core.Bool.{Bool, true, false, _&&_, _||_, cond}
 use mathlib.Core.List.{List, [], _∷_, _++_}

@@ -1,4 +1,13 @@
 -- What a simulator holds, how its parts are read, and how one part is put in another's place. (01, Sizes) Definitions only.
+-- The structs and enums are those of crates/rules/src/lib.rt, field by field. A double is a value of `lib.Ieee`, a whole number is a number without bound, and an array is a list of
+-- the array's full length: 64 edges, 256 slots, 256 places of the queue. A place that nobody uses holds the blank of its kind, so that two states that mean the same are equal.
+-- Worked values, for a simulator with edge 0 of capacity 10, one transfer of id 7 over edge 0 twice, and worker 3's transfer 9 waiting to be collected:
+--   edges      capacity 10 at place 0, `blank-edge` at places 1 to 63;  num_edges  1
+--   in_flight  at slot 0 `taken`, id 7, path hops 0 0 0 0 0 0 0 0 of which the first len = 2 count;  `free` at slots 1 to 255
+--   completed  owner `Worker 3` and id 9 at place 0, `blank-completion` at places 1 to 255;  num_completed  1
+--   edge_load  2 at place 0, 0 at places 1 to 63, once rates are up to date;  len  1
+-- Prepared for later requests, and of no other use yet: the tolerance as a part of the state; `path-of`, which gets the simulator and reads nothing of it but the transfer's own
+-- path; `counts-in-loads` (Clock), which all in flight pass; the bound on all paths together (`path-room`, Invariant).
 use Prim.Native.Nat.{ℕ, _-_}
 use mathlib.Core.Bool.{Bool, true, false, _&&_, _||_, cond}
 use mathlib.Core.List.{List, [], _∷_, _++_}
@@ -88,7 +97,7 @@ fresh = record {
 unfoldable pub own-path : Transfer → List ℕ
 own-path t = take (t .path .len) (t .path .hops)
 
--- A simulator's way to read a transfer's path. (Every rule takes paths through this one reading.) (01, Sizes)
+-- How a simulator's rules read a transfer's path: the definitions of a filling, of draining and of demand 3 get this function handed over. (01, Sizes)
 abbrev pub path-of : Flows → Transfer → List ℕ
 path-of f = own-path
 
@@ -169,7 +178,7 @@ with-edge-load load f = record { edges = f .edges; «num_edges» = f .«num_edge
 unfoldable pub with-clock : Clock → Flows → Flows
 with-clock clock f = record { edges = f .edges; «num_edges» = f .«num_edges»; «in_flight» = f .«in_flight»; completed = f .completed; «num_completed» = f .«num_completed»; «edge_load» = f .«edge_load»; clock = clock; totals = f .totals; tolerance = f .tolerance }
 
--- Other totals.
+-- Another peak, and other tallies.
 unfoldable pub with-totals : Totals → Flows → Flows
 with-totals totals f = record { edges = f .edges; «num_edges» = f .«num_edges»; «in_flight» = f .«in_flight»; completed = f .completed; «num_completed» = f .«num_completed»; «edge_load» = f .«edge_load»; clock = f .clock; totals = totals; tolerance = f .tolerance }
 

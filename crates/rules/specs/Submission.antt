@@ -18,7 +18,15 @@ use Rattle.rules.specs.Records.{route, contains, num-in-flight, tally-of
 use Rattle.rules.specs.Clock.{drain-to}
 use Rattle.rules.specs.Refusals.{Cause, _when_, refusing, answering, refused, not-finite, not-a-time, not-a-cap, no-such-edge, too-long, is-full, read-cap}
 
--- Why a transfer does not start. (01, Numbers)
+-- What the tables refuse of a submission. (01, Numbers)
+abbrev pub table-causes : ℕ → Owner → Flows → List Cause
+table-causes id owner f =
+    6 when contains id f
+    ∷ 7 when is-full f
+    ∷ 9 when eqb (tally-of owner (f .totals) .submitted) (2 ^ 64 - 1)
+    ∷ []
+
+-- Why a transfer does not start: its arguments, then the tables. (01, Numbers)
 abbrev pub submit-causes : ℕ → Owner → List ℕ → ℕ → Float → Cap → Float → Flows → List Cause
 submit-causes id owner path bytes latency cap T f =
     1 when (not-finite latency || not-a-cap cap || not-a-time T)
@@ -26,10 +34,7 @@ submit-causes id owner path bytes latency cap T f =
     ∷ 3 when any (no-such-edge f) path
     ∷ 4 when too-long path
     ∷ 5 when ltb (2 ^ 53) bytes
-    ∷ 6 when contains id f
-    ∷ 7 when is-full f
-    ∷ 9 when eqb (tally-of owner (f .totals) .submitted) (2 ^ 64 - 1)
-    ∷ []
+    ∷ table-causes id owner f
 
 -- A submitted transfer: a latency below zero is none, its rate is 0 until a filling, and it has been drained up to its own time. (01, Clock)
 unfoldable pub submitted-transfer : ℕ → Owner → List ℕ → ℕ → Float → Cap → Float → Transfer
@@ -58,11 +63,18 @@ count-submitted bytes y = record { submitted = y .submitted + 1; completed = y .
 unfoldable pub peak-taken : Flows → Flows
 peak-taken f = with-totals (record { «peak_in_flight» = max (f .totals .«peak_in_flight») (num-in-flight f); worker = f .totals .worker; handoff = f .totals .handoff; write = f .totals .write }) f
 
--- Drained to its time, then counted, then inserted, then the peak. (01, Clock)
+-- A transfer joins those in flight, and then the peak is taken. (01, Clock)
+abbrev pub joined : Transfer → Flows → Flows
+joined t f = peak-taken (with-in-flight (placed t (f .«in_flight»)) f)
+
+-- A transfer of some bytes starts at its own time: drained to it, then counted, then inserted. (01, Clock)
+abbrev pub started : Transfer → ℕ → Flows → Flows
+started t bytes f = made-stale (joined t (on-tally (t .owner) (count-submitted bytes) (drain-to (t .«last_update») f)))
+
+-- The simulator with a submitted transfer. (01, Clock)
 unfoldable pub submitted : ℕ → Owner → List ℕ → ℕ → Float → Cap → Float → Flows → Flows
-submitted id owner path bytes latency cap T f =
-    let d = on-tally owner (count-submitted bytes) (drain-to T f) in
-    made-stale (peak-taken (with-in-flight (placed (submitted-transfer id owner path bytes latency cap T) (d .«in_flight»)) d))
+unfolding submitted-transfer
+submitted id owner path bytes latency cap T f = started (submitted-transfer id owner path bytes latency cap T) bytes f
 
 -- A transfer starts at the time T, with or without a cap of its own. (01, Numbers and Clock)
 unfoldable pub submit-capped : ℕ → Owner → List ℕ → ℕ → Float → Cap → Float → Flows → Outcome

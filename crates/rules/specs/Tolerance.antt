@@ -12,7 +12,7 @@ B = nearest 1 1000000
 abbrev pub F : Float
 F = nearest 1 1000000000000
 
--- The tolerance of every simulator so far. (01, Tolerance)
+-- The tolerance of every simulator. (01, Tolerance)
 abbrev pub default-tolerance : Tolerance
 default-tolerance = record { floor = F }
 

@@ -11,7 +11,8 @@ ghost use Rattle.doubles.specs.Doubles.{_≼_};
 ghost use Rattle.rules.specs.Records.{num-in-flight, tally-of};
 ghost use Rattle.rules.specs.Refusals.{is-full};
 ghost use Rattle.rules.specs.Invariant.{ClockTime, Invariant};
-ghost use Rattle.starting.specs.Started.{inserted, started, start};
+ghost use Rattle.rules.specs.Submission.{joined, started};
+ghost use Rattle.starting.specs.Started.{start};
 
 // A transfer of that many bytes starts at its own time, where the tables take it.
 pub fn start(flows: Flows, transfer: Transfer, bytes: u64) -> Outcome
@@ -66,14 +67,14 @@ fn started(flows: Flows, transfer: Transfer, bytes: u64) -> Flows
     let owner = transfer.owner;
     let drained = clock::drain_to(flows, transfer.last_update);
     let counted = tallies::submitted(drained, owner, bytes);
-    let after = inserted(counted, transfer);
+    let after = joined(counted, transfer);
     clock::made_stale(after)
 }
 
 // The transfer in the lowest free slot, and the peak raised to the number that is then in flight.
-fn inserted(flows: Flows, transfer: Transfer) -> Flows
+fn joined(flows: Flows, transfer: Transfer) -> Flows
     requires { ⌜ num-in-flight flows < 256 ⌝ }
-    ensures { λ r. ⌜ r ≡ inserted transfer flows ⌝ }
+    ensures { λ r. ⌜ r ≡ joined transfer flows ⌝ }
 {
     let before = flows.in_flight;
     let i = slots::free_slot(before);

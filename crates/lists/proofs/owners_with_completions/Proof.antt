@@ -11,7 +11,7 @@ use Rattle.lists.proofs.owners_with_completions.Statement.{statement}
 use Rattle.lists.proofs.owners_with_completions.Tie as tie
 
 num-owners-requires : tie.Need-num-owners-requires
-num-owners-requires c κs = (omega arith, record { ordered = c .before .before .pre .queue-ordered })
+num-owners-requires c κs = (omega arith, c .before .before .pre .queue-ordered)
 
 mul-if1 : tie.Need-mul-if1
 mul-if1 c =
@@ -25,7 +25,7 @@ returns c =
     (rw e refl, rw e refl)
 
 write-owners-requires : tie.Need-write-owners-requires
-write-owners-requires c κs = (omega arith, (record { ordered = c .before .before .before .before .before .pre .queue-ordered }, omega arith))
+write-owners-requires c κs = (omega arith, (c .before .before .before .before .before .pre .queue-ordered, omega arith))
 
 same-length : tie.Need-same-length
 same-length c = search needs

@@ -7,7 +7,6 @@ use Rattle.rules.specs.declared.Flows.{Flows}
 use Rattle.rules.specs.Records.{num-in-flight, tally-of, on-tally}
 use Rattle.rules.specs.Submission.{count-submitted}
 use Rattle.starting.proofs.Unmoved.{still-counted, still-in-flight, counted-in-flight}
-use Rattle.starting.specs.Started.{started}
 use Rattle.starting.proofs.started.Statement.{statement}
 use Rattle.starting.proofs.started.Tie as tie
 
@@ -21,8 +20,8 @@ submitted-requires c κs =
     let still = ap (λ (y : Tally). y .submitted) (still-counted (entry .pre .0) (entry .pre .1 .0) (entry .pre .1 .1 .0) (entry .args .transfer .owner)) in
     omega (arith, same, still, entry .pre .1 .1 .1 .1)
 
-inserted-requires : tie.Need-inserted-requires
-inserted-requires c κs =
+joined-requires : tie.Need-joined-requires
+joined-requires c κs =
     let entry = c .before .before in
     let counted = ap num-in-flight (c .submitted .ensures) ∙ counted-in-flight _ _ _ in
     let drained = ap num-in-flight (c .before .drain-to .ensures .0) ∙ still-in-flight (entry .pre .0) (entry .pre .1 .0) (entry .pre .1 .1 .0) in
@@ -32,14 +31,13 @@ made-stale-requires : tie.Need-made-stale-requires
 made-stale-requires c κs = search needs
 
 returns : tie.Need-returns
-unfolding started
 returns c =
     let args = c .before .before .before .before .args in
     let drained = c .before .before .before .drain-to in
     let counted : c .before .before .submitted .result ≡ on-tally (args .transfer .owner) (count-submitted (args .bytes)) (drained .result) = c .before .before .submitted .ensures in
-    rw (c .made-stale .ensures, c .before .inserted .ensures, ← drained .ensures .0, ← counted)
+    rw (c .made-stale .ensures, c .before .joined .ensures, ← drained .ensures .0, ← counted)
 
 pub started-spec : {M : Type 1} → statement M
 started-spec =
     tie.close
-    (tie.spec drain-to-requires submitted-requires inserted-requires made-stale-requires returns)
+    (tie.spec drain-to-requires submitted-requires joined-requires made-stale-requires returns)

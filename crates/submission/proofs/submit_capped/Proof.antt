@@ -16,7 +16,7 @@ use Rattle.keeps.proofs.Refusing.{neither}
 use Rattle.rules.specs.Submission.{submitted-transfer, submit-capped, submitted}
 use Rattle.rules.specs.Refusals.{refusing, not-finite, not-a-cap, not-a-time, no-such-edge, too-long}
 use Rattle.submission.proofs.Typed.{cap-typed}
-use Rattle.starting.specs.Started.{inserted, started, start}
+use Rattle.starting.specs.Started.{start}
 use Rattle.submission.proofs.submit_capped.Statement.{statement}
 use Rattle.submission.proofs.submit_capped.Tie as tie
 
@@ -125,7 +125,7 @@ start-requires c κs =
     rw own-time (entry .pre, (time-clock at typed time, time-no-earlier at typed time (entry .pre .clock .plain) (c .before .before .before .before .before .if2 .left)))
 
 returns-6 : tie.Need-returns-6
-unfolding submit-capped refusing no-such-edge too-long submitted start started inserted submitted-transfer
+unfolding submit-capped refusing no-such-edge too-long submitted start submitted-transfer
 returns-6 c =
     let entry = c .before .before .before .before .before .before .before .before .before .before .before in
     let a = entry .args in

@@ -1,4 +1,4 @@
--- `inserted` places the transfer by one store; whether or not the peak is raised, it is then the larger of itself and the number in flight. Assumes nothing.
+-- `joined` places the transfer by one store; whether or not the peak is raised, it is then the larger of itself and the number in flight. Assumes nothing.
 use borrow.Author.Needs.{needs}
 use Prim.Native.Nat.{max}
 use native.Mathlib.Omega.{arith}
@@ -8,9 +8,8 @@ use Rattle.rules.specs.Lists.{count}
 use Rattle.rules.specs.Submission.{peak-taken}
 use Rattle.rules.specs.Records.{num-in-flight, with-in-flight, with-totals}
 use Rattle.slots.proofs.Lookups.{placed-is}
-use Rattle.starting.specs.Started.{inserted}
-use Rattle.starting.proofs.inserted.Statement.{statement}
-use Rattle.starting.proofs.inserted.Tie as tie
+use Rattle.starting.proofs.joined.Statement.{statement}
+use Rattle.starting.proofs.joined.Tie as tie
 
 free-slot-requires : tie.Need-free-slot-requires
 unfolding num-in-flight
@@ -26,7 +25,7 @@ num-taken-requires : tie.Need-num-taken-requires
 num-taken-requires c κs = search needs
 
 returns : tie.Need-returns
-unfolding inserted peak-taken with-in-flight with-totals num-in-flight
+unfolding peak-taken with-in-flight with-totals num-in-flight
 returns c =
     let args = c .before .before .before .before .before .before .args in
     let slots = args .flows .«in_flight» in
@@ -35,7 +34,7 @@ returns c =
     rw (placed-is (args .transfer) slots, ← c .before .before .before .before .free-slot .ensures .0, counted, peak)
 
 returns-2 : tie.Need-returns-2
-unfolding inserted peak-taken with-in-flight with-totals num-in-flight
+unfolding peak-taken with-in-flight with-totals num-in-flight
 returns-2 c =
     let args = c .before .before .before .before .before .args in
     let slots = args .flows .«in_flight» in
@@ -43,8 +42,8 @@ returns-2 c =
     let peak : max (args .flows .totals .«peak_in_flight») (c .before .num-taken .result) ≡ args .flows .totals .«peak_in_flight» = omega arith in
     rw (placed-is (args .transfer) slots, ← c .before .before .before .free-slot .ensures .0, counted, peak)
 
-pub inserted-spec : {M : Type 1} → statement M
-inserted-spec =
+pub joined-spec : {M : Type 1} → statement M
+joined-spec =
     tie.close
     (tie.spec
     free-slot-requires
