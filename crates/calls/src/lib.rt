@@ -25,9 +25,9 @@ pub fn make(flows: Flows, call: Call, path: &[u32], lent: &mut [u32]) -> Made
     match call {
         Call::Advance(time) => changing(advance::advance(flows, time, lent)),
         Call::Submit(s) => submit(flows, s, path),
-        Call::Cancel(id) => changing(edits::cancel(flows, id)),
-        Call::AddEdge(capacity) => changing(edits::add_edge(flows, capacity)),
-        Call::Widen(edge, amount) => changing(edits::widen(flows, edge, amount)),
+        Call::Cancel(id) => changing(cancel::cancel(flows, id)),
+        Call::AddEdge(capacity) => changing(edges::add_edge(flows, capacity)),
+        Call::Widen(edge, amount) => changing(edges::widen(flows, edge, amount)),
         Call::TakeCompleted(owner) => changing(collecting::take_completed(flows, owner, lent)),
         Call::OwnersWithCompletions => {
             let answer = lists::owners_with_completions(flows, lent);

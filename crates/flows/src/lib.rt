@@ -28,10 +28,10 @@ pub use totals::Counts;
 
 // ---- calls
 pub use advance::advance;
+pub use cancel::cancel;
 pub use collecting::take_completed;
-pub use edits::add_edge;
-pub use edits::cancel;
-pub use edits::widen;
+pub use edges::add_edge;
+pub use edges::widen;
 pub use submission::submit;
 pub use submission::submit_capped;
 

@@ -22,6 +22,7 @@ pub mod Passing
 pub mod Refreshing
 pub mod Draining
 pub mod Calls
+pub mod Kept
 pub mod Always
 pub mod Unmoved
 pub mod Zeros

@@ -1,13 +1,10 @@
-// The calls that change edges, and cancel. Each tests its refusals first, lowest number first, then drains to the clock, makes its change and leaves rates stale.
+// The calls that change edges: one more edge, and another capacity. Each tests its refusals first, lowest number first, then drains to the clock, makes its change and leaves rates stale.
 use rules::Answer;
 use rules::Edge;
 use rules::Flows;
 use rules::Outcome;
-use rules::Transfer;
-use slots::Lookup;
 ghost use mathlib.Core.Path.{_≡_};
 ghost use Rattle.rules.specs.Edges.{add-edge, no-widening, widen};
-ghost use Rattle.rules.specs.Cancel.{cancel};
 ghost use Rattle.rules.specs.Invariant.{Invariant};
 
 // One more edge, which gets the next number.
@@ -88,30 +85,4 @@ fn no_widening(flows: Flows, e: usize, amount: f64) -> bool
     }
     let edges = flows.edges;
     arguments::not_an_amount(edges[e].capacity + amount)
-}
-
-// A transfer is given up; what it has moved stays counted.
-pub fn cancel(flows: Flows, id: u32) -> Outcome
-    requires { ⌜ Invariant flows ⌝ }
-    ensures exactly { λ r. ⌜ r ≡ cancel id flows ⌝ }
-    ensures sound { λ r. ⌜ Invariant (r .flows) ⌝ }
-{
-    let in_flight = flows.in_flight;
-    let Lookup::Slot(i) = slots::find(in_flight, id) else {
-        return Outcome {
-            answer: Answer::Unknown,
-            flows: flows,
-        };
-    };
-    let given_up = in_flight[i];
-    let owner = given_up.owner;
-    let drained = clock::drained_to_clock(flows);
-    let mut freed = tallies::cancelled(drained, owner);
-    let free = Transfer::free();
-    freed.in_flight[i] = free;
-    let stale = clock::made_stale(freed);
-    Outcome {
-        answer: Answer::Done,
-        flows: stale,
-    }
 }

@@ -7,8 +7,8 @@ use Rattle.rules.specs.Refusals.{no-such-edge}
 use Rattle.rules.specs.Edges.{wider, no-widening}
 use Rattle.rules.specs.Records.{blank-edge}
 use Rattle.rules.proofs.Steps.{getD-any}
-use Rattle.edits.proofs.no_widening.Statement.{statement}
-use Rattle.edits.proofs.no_widening.Tie as tie
+use Rattle.edges.proofs.no_widening.Statement.{statement}
+use Rattle.edges.proofs.no_widening.Tie as tie
 
 not-finite-requires : tie.Need-not-finite-requires
 not-finite-requires c κs = search needs

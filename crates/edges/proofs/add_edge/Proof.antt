@@ -7,10 +7,10 @@ use Rattle.rules.specs.Records.{with-edges}
 use Rattle.rules.specs.Refusals.{refusing}
 use Rattle.rules.specs.Edges.{add-edge}
 use Rattle.keeps.proofs.Calls.{add-edge-keeps}
-use Rattle.edits.proofs.Kept.{kept}
-use Rattle.edits.proofs.Changed.{edge-added-is}
-use Rattle.edits.proofs.add_edge.Statement.{statement}
-use Rattle.edits.proofs.add_edge.Tie as tie
+use Rattle.keeps.proofs.Kept.{kept}
+use Rattle.edges.proofs.Changed.{edge-added-is}
+use Rattle.edges.proofs.add_edge.Statement.{statement}
+use Rattle.edges.proofs.add_edge.Tie as tie
 
 not-an-amount-requires : tie.Need-not-an-amount-requires
 not-an-amount-requires c κs = search needs

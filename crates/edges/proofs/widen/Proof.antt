@@ -8,10 +8,10 @@ use lib.Ieee.{nan}
 use Rattle.rules.specs.Records.{with-edges}
 use Rattle.rules.specs.Refusals.{refusing, no-such-edge}
 use Rattle.keeps.proofs.Calls.{widen-keeps}
-use Rattle.edits.proofs.Kept.{kept}
-use Rattle.edits.proofs.Changed.{edge-widened-is, widen-is}
-use Rattle.edits.proofs.widen.Statement.{statement}
-use Rattle.edits.proofs.widen.Tie as tie
+use Rattle.keeps.proofs.Kept.{kept}
+use Rattle.edges.proofs.Changed.{edge-widened-is, widen-is}
+use Rattle.edges.proofs.widen.Statement.{statement}
+use Rattle.edges.proofs.widen.Tie as tie
 
 no-widening-requires : tie.Need-no-widening-requires
 no-widening-requires c κs = search needs

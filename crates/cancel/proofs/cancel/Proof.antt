@@ -9,10 +9,10 @@ use Rattle.rules.specs.Cancel.{cancel}
 use Rattle.rules.proofs.Steps.{getD-any}
 use Rattle.slots.proofs.Found.{nowhere, somewhere}
 use Rattle.keeps.proofs.Calls.{cancel-keeps}
-use Rattle.edits.proofs.Kept.{kept}
-use Rattle.edits.proofs.Freed.{found-below, drained-tally, cancelled-is, room-to-cancel}
-use Rattle.edits.proofs.cancel.Statement.{statement}
-use Rattle.edits.proofs.cancel.Tie as tie
+use Rattle.keeps.proofs.Kept.{kept}
+use Rattle.cancel.proofs.Freed.{found-below, drained-tally, cancelled-is, room-to-cancel}
+use Rattle.cancel.proofs.cancel.Statement.{statement}
+use Rattle.cancel.proofs.cancel.Tie as tie
 
 find-requires : tie.Need-find-requires
 find-requires c κs = search needs

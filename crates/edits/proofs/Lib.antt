@@ -1,3 +1,0 @@
-pub mod Kept
-pub mod Changed
-pub mod Freed
