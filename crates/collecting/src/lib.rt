@@ -32,10 +32,7 @@ pub fn take_completed(flows: Flows, owner: Owner, out: &mut [u32]) -> Outcome
         };
     }
     if out.len() < waiting {
-        return Outcome {
-            answer: Answer::Refused(8),
-            flows: flows,
-        };
+        return arguments::refused(flows, 8);
     }
     write_ids(completed, n, owner, out);
     let left = without(completed, n, owner);

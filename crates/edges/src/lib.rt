@@ -14,17 +14,11 @@ pub fn add_edge(flows: Flows, capacity: f64) -> Outcome
     ensures sound { λ r. ⌜ Invariant (r .flows) ⌝ }
 {
     if arguments::not_an_amount(capacity) {
-        return Outcome {
-            answer: Answer::Refused(1),
-            flows: flows,
-        };
+        return arguments::refused(flows, 1);
     }
     let e = flows.num_edges;
     if 64 <= e {
-        return Outcome {
-            answer: Answer::Refused(7),
-            flows: flows,
-        };
+        return arguments::refused(flows, 7);
     }
     let read = doubles::read_zero(capacity);
     let edge = Edge {
@@ -51,16 +45,10 @@ pub fn widen(flows: Flows, edge: u32, bytes_per_sec: f64) -> Outcome
 {
     let e = edge as usize;
     if no_widening(flows, e, bytes_per_sec) {
-        return Outcome {
-            answer: Answer::Refused(1),
-            flows: flows,
-        };
+        return arguments::refused(flows, 1);
     }
     if flows.num_edges <= e {
-        return Outcome {
-            answer: Answer::Refused(3),
-            flows: flows,
-        };
+        return arguments::refused(flows, 3);
     }
     let amount = doubles::read_zero(bytes_per_sec);
     let mut widened = clock::drained_to_clock(flows);

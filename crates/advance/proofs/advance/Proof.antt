@@ -14,19 +14,25 @@ use Rattle.advance.proofs.advance.Tie as tie
 not-a-time-requires : tie.Need-not-a-time-requires
 not-a-time-requires c κs = search needs
 
+refused-requires : tie.Need-refused-requires
+refused-requires c κs = search needs
+
 returns : tie.Need-returns
 returns c =
-    let start = c .before .before .before .before .before in
-    let odd : not-a-time (start .args .until) ≡ true = sym (c .before .before .not-a-time .ensures) ∙ c .if1 .taken in
+    let start = c .before .before .before .before .before .before in
+    let odd : not-a-time (start .args .until) ≡ true = sym (c .before .before .before .not-a-time .ensures) ∙ c .before .if1 .taken in
     let e = advance-no-time (start .args .until) (start .args .flows) (start .args .out .now) odd in
-    (rw e refl, (rw e refl, start .pre))
+    (rw (c .refused .ensures, e) refl, (rw e refl, rw (c .refused .ensures) (start .pre)))
+
+refused-requires-2 : tie.Need-refused-requires-2
+refused-requires-2 c κs = search needs
 
 returns-2 : tie.Need-returns-2
 returns-2 c =
-    let start = c .before .before .before .before .before .before in
-    let time : not-a-time (start .args .until) ≡ false = sym (c .before .before .before .not-a-time .ensures) ∙ c .before .if1 .left in
-    let e = advance-early (start .args .until) (start .args .flows) (start .args .out .now) time (c .if2 .taken) in
-    (rw e refl, (rw e refl, start .pre))
+    let start = c .before .before .before .before .before .before .before in
+    let time : not-a-time (start .args .until) ≡ false = sym (c .before .before .before .before .not-a-time .ensures) ∙ c .before .before .if1 .left in
+    let e = advance-early (start .args .until) (start .args .flows) (start .args .out .now) time (c .before .if2 .taken) in
+    (rw (c .refused2 .ensures, e) refl, (rw e refl, rw (c .refused2 .ensures) (start .pre)))
 
 read-zero-requires : tie.Need-read-zero-requires
 read-zero-requires c κs = search needs
@@ -79,7 +85,9 @@ advance-spec =
     tie.close
     (tie.spec
     not-a-time-requires
+    refused-requires
     returns
+    refused-requires-2
     returns-2
     read-zero-requires
     quiet-requires

@@ -19,14 +19,17 @@ done-list-requires c κs = search needs
 mul-if1 : tie.Need-mul-if1
 mul-if1 c = search needs
 
+refused-requires : tie.Need-refused-requires
+refused-requires c κs = search needs
+
 returns : tie.Need-returns
 returns c =
-    let start = c .before .before .before .before .before in
-    let d = c .before .before .before .settled .result in
-    let list = c .before .before .done-list .result in
-    let long : list .count ≡ length (done-list d) = ap (λ (t : Table). t .count) (c .before .before .done-list .ensures .0) ∙ table-count (done-list d) in
+    let start = c .before .before .before .before .before .before in
+    let d = c .before .before .before .before .settled .result in
+    let list = c .before .before .before .done-list .result in
+    let long : list .count ≡ length (done-list d) = ap (λ (t : Table). t .count) (c .before .before .before .done-list .ensures .0) ∙ table-count (done-list d) in
     let e = list-done-short d (done-list d) (start .args .flows) (start .args .out .now) (list .count) long (omega arith) in
-    (rw (← c .before .before .before .settled .ensures .0, e) refl, rw (← c .before .before .before .settled .ensures .0, e) refl)
+    (rw (c .refused .ensures, ← c .before .before .before .before .settled .ensures .0, e) refl, rw (← c .before .before .before .before .settled .ensures .0, e) refl)
 
 write-triples-requires : tie.Need-write-triples-requires
 write-triples-requires c κs = search needs
@@ -59,6 +62,7 @@ list-done-spec =
     settled-requires
     done-list-requires
     mul-if1
+    refused-requires
     returns
     write-triples-requires
     completed-requires

@@ -19,11 +19,14 @@ returns c =
     let e = take-nothing (c .before .before .before .before .args .owner) (c .before .before .before .before .args .flows) (c .before .before .before .before .args .out .now) (c .before .num-waiting .result) (c .before .num-waiting .ensures) (omega arith) in
     with-sound (c .before .before .before .before .args .owner) (c .before .before .before .before .args .flows) (c .before .before .before .before .args .out .now) (c .before .before .before .before .pre) (rw e refl) (rw e refl)
 
+refused-requires : tie.Need-refused-requires
+refused-requires c κs = search needs
+
 returns-2 : tie.Need-returns-2
 unfolding waiting
 returns-2 c =
-    let e = take-short (c .before .before .before .before .before .args .owner) (c .before .before .before .before .before .args .flows) (c .before .before .before .before .before .args .out .now) (c .before .before .num-waiting .result) (c .before .before .num-waiting .ensures) (omega arith) (omega arith) in
-    with-sound (c .before .before .before .before .before .args .owner) (c .before .before .before .before .before .args .flows) (c .before .before .before .before .before .args .out .now) (c .before .before .before .before .before .pre) (rw e refl) (rw e refl)
+    let e = take-short (c .before .before .before .before .before .before .args .owner) (c .before .before .before .before .before .before .args .flows) (c .before .before .before .before .before .before .args .out .now) (c .before .before .before .num-waiting .result) (c .before .before .before .num-waiting .ensures) (omega arith) (omega arith) in
+    with-sound (c .before .before .before .before .before .before .args .owner) (c .before .before .before .before .before .before .args .flows) (c .before .before .before .before .before .before .args .out .now) (c .before .before .before .before .before .before .pre) (rw (c .refused .ensures, e) refl) (rw e refl)
 
 write-ids-requires : tie.Need-write-ids-requires
 write-ids-requires c κs = search needs
@@ -46,6 +49,7 @@ take-completed-spec =
     (tie.spec
     num-waiting-requires
     returns
+    refused-requires
     returns-2
     write-ids-requires
     without-requires

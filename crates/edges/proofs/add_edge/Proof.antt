@@ -15,13 +15,19 @@ use Rattle.edges.proofs.add_edge.Tie as tie
 not-an-amount-requires : tie.Need-not-an-amount-requires
 not-an-amount-requires c κs = search needs
 
+refused-requires : tie.Need-refused-requires
+refused-requires c κs = search needs
+
 returns : tie.Need-returns
 unfolding add-edge refusing
-returns c = kept (add-edge-keeps (c .before .before .args .capacity) (c .before .before .args .flows) (search needs) (c .before .before .pre)) (rw (sym (c .before .not-an-amount .ensures) ∙ c .if1 .taken))
+returns c = kept (add-edge-keeps (c .before .before .before .args .capacity) (c .before .before .before .args .flows) (search needs) (c .before .before .before .pre)) (rw (c .refused .ensures, sym (c .before .before .not-an-amount .ensures) ∙ c .before .if1 .taken))
+
+refused-requires-2 : tie.Need-refused-requires-2
+refused-requires-2 c κs = search needs
 
 returns-2 : tie.Need-returns-2
 unfolding add-edge refusing
-returns-2 c = kept (add-edge-keeps (c .before .before .before .args .capacity) (c .before .before .before .args .flows) (search needs) (c .before .before .before .pre)) (rw (sym (c .before .before .not-an-amount .ensures) ∙ c .before .if1 .left, le-leb 64 (c .before .before .before .args .flows .«num_edges») (omega arith)))
+returns-2 c = kept (add-edge-keeps (c .before .before .before .before .args .capacity) (c .before .before .before .before .args .flows) (search needs) (c .before .before .before .before .pre)) (rw (c .refused2 .ensures, sym (c .before .before .before .not-an-amount .ensures) ∙ c .before .before .if1 .left, le-leb 64 (c .before .before .before .before .args .flows .«num_edges») (omega arith)))
 
 read-zero-requires : tie.Need-read-zero-requires
 read-zero-requires c κs = search needs
@@ -55,7 +61,9 @@ add-edge-spec =
     tie.close
     (tie.spec
     not-an-amount-requires
+    refused-requires
     returns
+    refused-requires-2
     returns-2
     read-zero-requires
     drained-to-clock-requires

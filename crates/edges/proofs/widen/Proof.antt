@@ -16,15 +16,21 @@ use Rattle.edges.proofs.widen.Tie as tie
 no-widening-requires : tie.Need-no-widening-requires
 no-widening-requires c κs = search needs
 
+refused-requires : tie.Need-refused-requires
+refused-requires c κs = search needs
+
 returns : tie.Need-returns
 unfolding refusing
-returns c = kept (widen-keeps (c .before .before .args .edge) (c .before .before .args .bytes-per-sec) (c .before .before .args .flows) (search needs) (c .before .before .pre)) (rw (widen-is, sym (c .before .no-widening .ensures) ∙ c .if1 .taken))
+returns c = kept (widen-keeps (c .before .before .before .args .edge) (c .before .before .before .args .bytes-per-sec) (c .before .before .before .args .flows) (search needs) (c .before .before .before .pre)) (rw (c .refused .ensures, widen-is, sym (c .before .before .no-widening .ensures) ∙ c .before .if1 .taken))
+
+refused-requires-2 : tie.Need-refused-requires-2
+refused-requires-2 c κs = search needs
 
 returns-2 : tie.Need-returns-2
 unfolding refusing no-such-edge
 returns-2 c =
-    kept (widen-keeps (c .before .before .before .before .args .edge) (c .before .before .before .before .args .bytes-per-sec) (c .before .before .before .before .args .flows) (search needs) (c .before .before .before .before .pre))
-    (rw (widen-is, sym (c .before .before .before .no-widening .ensures) ∙ c .before .before .if1 .left, le-leb (c .before .before .before .before .args .flows .«num_edges») (c .before .before .before .before .args .edge) (omega arith)))
+    kept (widen-keeps (c .before .before .before .before .before .args .edge) (c .before .before .before .before .before .args .bytes-per-sec) (c .before .before .before .before .before .args .flows) (search needs) (c .before .before .before .before .before .pre))
+    (rw (c .refused2 .ensures, widen-is, sym (c .before .before .before .before .no-widening .ensures) ∙ c .before .before .before .if1 .left, le-leb (c .before .before .before .before .before .args .flows .«num_edges») (c .before .before .before .before .before .args .edge) (omega arith)))
 
 read-zero-requires : tie.Need-read-zero-requires
 read-zero-requires c κs = search needs
@@ -58,7 +64,9 @@ widen-spec =
     tie.close
     (tie.spec
     no-widening-requires
+    refused-requires
     returns
+    refused-requires-2
     returns-2
     read-zero-requires
     drained-to-clock-requires
