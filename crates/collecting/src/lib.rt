@@ -68,7 +68,7 @@ fn belongs(owner: Owner, c: Completion) -> bool
     ensures { λ r. ⌜ r ≡ belongs owner c ⌝ }
 {
     let other = c.owner;
-    queue::same_owner(owner, other)
+    owners::same_owner(owner, other)
 }
 
 // The owner's ids at the front of the buffer, in the order of the table.

@@ -15,7 +15,7 @@ use Rattle.rules.specs.Queue.{belongs, owners}
 use Rattle.rules.proofs.Steps.{getD-any}
 use Rattle.queue.specs.Tables.{InOrder}
 use Rattle.queue.proofs.Taken.{length-taken, taken-one, taken-none}
-use Rattle.queue.proofs.Order.{same-owner-is, owner-before-is, before-is}
+use Rattle.owners.proofs.Order.{same-owner-is, owner-before-is, before-is}
 
 -- ---- tests
 

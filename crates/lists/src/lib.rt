@@ -23,8 +23,8 @@ pub fn write_triples(list: [Completion; 256], n: usize, out: &mut [u32])
     while i < n {
         let c = list[i];
         let o = c.owner;
-        let kind = queue::owner_kind(o);
-        let worker = queue::owner_worker(o);
+        let kind = owners::owner_kind(o);
+        let worker = owners::owner_worker(o);
         let at = 3 * i;
         out[at] = kind;
         out[at + 1] = worker;
@@ -66,7 +66,7 @@ fn comes_again(completed: [Completion; 256], n: usize, i: usize) -> bool
     let o = c.owner;
     let d = completed[j];
     let next = d.owner;
-    queue::same_owner(o, next)
+    owners::same_owner(o, next)
 }
 
 // How many owners have entries: each is counted at its last one.
@@ -99,8 +99,8 @@ fn write_owners(completed: [Completion; 256], n: usize, out: &mut [u32])
         if !comes_again(completed, n, i) {
             let c = completed[i];
             let o = c.owner;
-            let kind = queue::owner_kind(o);
-            let worker = queue::owner_worker(o);
+            let kind = owners::owner_kind(o);
+            let worker = owners::owner_worker(o);
             out[k] = kind;
             out[k + 1] = worker;
             k += 2;

@@ -50,14 +50,11 @@ pub fn spaced_owner(page: &mut [u8; 65536], at: usize, owner: Owner) -> usize
     requires { ⌜ at ≤ 65400 ⌝ }
     ensures { λ r. ⌜ r ≤ at + 13 ⌝ }
 {
-    match owner {
-        Owner::Worker(worker) => {
-            let next = put_text(page, at, b" 0");
-            spaced_short(page, next, worker)
-        }
-        Owner::Handoff => put_text(page, at, b" 1 0"),
-        Owner::Write => put_text(page, at, b" 2 0"),
-    }
+    let kind = owners::owner_kind(owner);
+    let worker = owners::owner_worker(owner);
+    let next = put_text(page, at, b" ");
+    let next = put_number(page, next, kind as u64);
+    spaced_short(page, next, worker)
 }
 
 // What has been counted of a kind.

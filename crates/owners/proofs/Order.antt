@@ -7,10 +7,18 @@ use native.Mathlib.Omega.{arith}
 use borrow.Author.Tests.{ltb-true, eqb-true}
 use lib.Dec.{ltb, eqb}
 use Rattle.rules.specs.declared.Owner.{Owner}
+use Rattle.rules.specs.declared.Owner.the-variants.{Worker, Handoff, Write}
 use Rattle.rules.specs.declared.Completion.{Completion}
 use Rattle.rules.specs.Records.{owner-kind, owner-worker, same-owner, owner-before, before}
 use Rattle.rules.specs.Queue.{same-completion}
 use Rattle.rules.proofs.Conds.{both, either}
+
+-- there are three kinds
+pub owner-kind-few : (o : Owner) → owner-kind o < 3
+unfolding owner-kind
+owner-kind-few (Worker n) = omega arith
+owner-kind-few Handoff = omega arith
+owner-kind-few Write = omega arith
 
 -- one owner: the same kind and the same worker number
 pub same-owner-is : (a b : Owner) → same-owner a b ≡ true → (owner-kind a ≡ owner-kind b) × (owner-worker a ≡ owner-worker b)
