@@ -1,4 +1,4 @@
-// The lists that are written into a lent buffer and change nothing: what is done, and who has something to collect.
+// Who has something to collect, listed into a lent buffer; nothing changes.
 use rules::Answer;
 use rules::Completion;
 use rules::Flows;
@@ -7,33 +7,9 @@ ghost use mathlib.Core.Path.{_≡_};
 ghost use lib.ListN.{length, take, drop, getD};
 ghost use Rattle.rules.specs.Lists.{any, write-front};
 ghost use Rattle.rules.specs.Records.{blank-completion};
-ghost use Rattle.rules.specs.Queue.{triples, belongs, owners, pairs, owners-with-completions};
+ghost use Rattle.rules.specs.Queue.{belongs, owners, pairs, owners-with-completions};
 ghost use Rattle.rules.specs.Invariant.{Invariant};
 ghost use Rattle.queue.specs.Tables.{InOrder};
-
-// ---- the list of an advance
-
-// The first n entries at the front of the buffer, three numbers each; later places keep what they held.
-pub fn write_triples(list: [Completion; 256], n: usize, out: &mut [u32])
-    requires { ⌜ n ≤ 256 ⌝ }
-    requires { do ⌜ 3 * n ≤ (← ⟦out.len()⟧) ⌝ }
-    ensures { λ _. ⌜ now (out .exit) ≡ write-front (triples (take n list)) (now (out .entry)) ⌝ }
-{
-    let mut i: usize = 0;
-    while i < n {
-        let c = list[i];
-        let o = c.owner;
-        let kind = owners::owner_kind(o);
-        let worker = owners::owner_worker(o);
-        let at = 3 * i;
-        out[at] = kind;
-        out[at + 1] = worker;
-        out[at + 2] = c.id;
-        i += 1;
-    }
-}
-
-// ---- who can collect
 
 // The owners with something to collect, workers by ascending number, then hand-off, then write; nothing is collected.
 pub fn owners_with_completions(flows: Flows, out: &mut [u32]) -> Answer

@@ -8,8 +8,8 @@ use Rattle.rules.specs.Queue.{triples}
 use Rattle.queue.proofs.Taken.{past-end, taken-one, taken-none}
 use Rattle.rules.proofs.Fronts.{written, written-none, written-three}
 use borrow.Author.Needs.{needs}
-use Rattle.lists.proofs.write_triples.Statement.{statement}
-use Rattle.lists.proofs.write_triples.Tie as tie
+use Rattle.advance.proofs.write_triples.Statement.{statement}
+use Rattle.advance.proofs.write_triples.Tie as tie
 
 abbrev Inv-loop : tie.InvT-loop
 Inv-loop n out₀ list i₀ out i = (i ≤ n) × (length out ≡ length out₀) × (written (3 * i) (triples (drop i (take n list))) out ≡ write-front (triples (take n list)) out₀)
