@@ -13,7 +13,7 @@ use Rattle.rules.specs.Lists.{any}
 use Rattle.rules.specs.Records.{blank-completion, owner-kind, same-owner, owner-before, before}
 use Rattle.rules.specs.Queue.{belongs, owners}
 use Rattle.rules.proofs.Steps.{getD-any}
-use Rattle.queue.specs.Tables.{InOrder}
+use Rattle.rules.specs.Invariant.{InOrder}
 use Rattle.queue.proofs.Taken.{length-taken, taken-one, taken-none}
 use Rattle.owners.proofs.Order.{same-owner-is, owner-before-is, before-is}
 

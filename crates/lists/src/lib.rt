@@ -8,8 +8,7 @@ ghost use lib.ListN.{length, take, drop, getD};
 ghost use Rattle.rules.specs.Lists.{any, write-front};
 ghost use Rattle.rules.specs.Records.{blank-completion};
 ghost use Rattle.rules.specs.Queue.{belongs, owners, pairs, owners-with-completions};
-ghost use Rattle.rules.specs.Invariant.{Invariant};
-ghost use Rattle.queue.specs.Tables.{InOrder};
+ghost use Rattle.rules.specs.Invariant.{Invariant, InOrder};
 
 // The owners with something to collect, workers by ascending number, then hand-off, then write; nothing is collected.
 pub fn owners_with_completions(flows: Flows, out: &mut [u32]) -> Answer
