@@ -72,7 +72,10 @@ fn changing(outcome: Outcome) -> Made
 {
     let answer = outcome.answer;
     let flows = outcome.flows;
-    asking(flows, Said::Answered(answer))
+    Made {
+        said: Said::Answered(answer),
+        flows,
+    }
 }
 
 // What a question that only reads makes.
