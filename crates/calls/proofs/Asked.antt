@@ -3,7 +3,6 @@ use mathlib.Core.Path.{_≡_, sym, ap}
 use mathlib.Core.List.{List}
 use Prim.Native.Nat.{ℕ}
 use Rattle.rules.specs.declared.Flows.{Flows}
-use Rattle.rules.specs.declared.Made.{Made}
 use Rattle.rules.specs.declared.Said.the-variants.{Answered}
 use Rattle.rules.specs.Queue.{owners-with-completions}
 use Rattle.rules.specs.Histories.{changing, asking}

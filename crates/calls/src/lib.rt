@@ -1,5 +1,4 @@
 // A call as data, made: what a program that reads its calls does with each of them.
-use rules::Answer;
 use rules::Call;
 use rules::Estimate;
 use rules::Flows;
@@ -8,7 +7,6 @@ use rules::Outcome;
 use rules::Said;
 use rules::Submission;
 ghost use mathlib.Core.Path.{_≡_};
-ghost use Rattle.rules.specs.declared.Call.the-variants.{Submit, EstimateNew};
 ghost use Rattle.rules.specs.declared.Said.the-variants.{Answered};
 ghost use Rattle.rules.specs.Histories.{changing as the-changing, asking as the-asking, call as the-call};
 ghost use Rattle.rules.specs.Submission.{submit-capped};

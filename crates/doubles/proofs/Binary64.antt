@@ -1,8 +1,7 @@
 -- The laws of this crate for doubles, in the operators of the definitions and with binary64's numbers written out: 2^53 for the largest count, 2^52 and 2^1126 for the
 -- units. Assumes nothing.
 use mathlib.Core.Path.{_≡_, refl}
-use Prim.Native.Nat.{ℕ, suc, _+_, _*_, _/_, _^_, _≤_, _<_}
-use native.Mathlib.Omega.{arith}
+use Prim.Native.Nat.{ℕ, _+_, _*_, _/_, _^_, _≤_, _<_}
 use lib.Dec.{T}
 use lib.Ieee.{Float, binary64, ofInt, ofBits}
 use lib.Ieee.Scale.{finite}

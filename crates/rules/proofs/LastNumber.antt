@@ -1,11 +1,9 @@
 -- Refusal 9 comes at the last number and not before, for each kind of owner: a simulator that has counted so far keeps the invariant, and the tables compute. Assumes nothing.
 use Prim.Native.Nat.{ℕ, _^_, _<_}
 use native.Mathlib.Omega.{arith}
-use mathlib.Core.Path.{_≡_, refl}
-use mathlib.Core.Bool.{true}
+use mathlib.Core.Path.{refl}
 use Rattle.rules.specs.declared.Owner.{Owner}
 use Rattle.rules.specs.declared.Owner.the-variants.{Worker, Handoff, Write}
-use Rattle.rules.specs.declared.Tally.{Tally}
 use Rattle.rules.specs.Records.{fresh, tally-of, with-totals, on-tally}
 use Rattle.rules.specs.Invariant.{Invariant, Balanced}
 use Rattle.rules.specs.Cases.{submitted-before, LastNumber}

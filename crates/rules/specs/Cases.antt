@@ -16,7 +16,6 @@ use Rattle.rules.specs.declared.Delay.the-variants.{After, Never}
 use Rattle.rules.specs.declared.Answer.{Answer}
 use Rattle.rules.specs.declared.Answer.the-variants.{Done, Added, Listed, Value, Due, Refused}
 use Rattle.rules.specs.declared.EdgeRead.the-variants.{Found}
-use Rattle.rules.specs.declared.Tally.{Tally}
 use Rattle.rules.specs.declared.Flows.{Flows}
 use Rattle.rules.specs.declared.Call.{Call}
 use Rattle.rules.specs.declared.Call.the-variants.{Advance, Submit, Cancel, AddEdge, Widen, TakeCompleted, NextCompletionDelay, EstimateNew, Rate, Edge, Rounds}

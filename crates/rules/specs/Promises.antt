@@ -35,7 +35,8 @@ AlwaysSound = (turns : List Turn) → T (all typed turns) → Invariant (run fre
 abbrev pub AlwaysTallied : Type 0
 AlwaysTallied = (turns : List Turn) → T (all typed turns) → (owner : Owner) → Tallied turns owner
 
--- A fact of the simulator wherever a call may work its rates out: as it stands, and drained to any time that an advance or a submission may name.
+-- A fact of the simulator wherever a call may work its rates out. `ensure-rates` (Clock) is the one place that fills, and the calls ask it of two simulators only: this one as it stands, and
+-- this one drained to a time that an advance or a submission may name, its own clock among them.
 pub record WhereverFilled (P : Flows → Type 0) (f : Flows) : Type 0 where
   pub as-it-stands : P f
   pub drained : (to : Float) → T (fits binary64 to) → not-a-time to ≡ false → (to ≺ f .clock .now) ≡ false → P (drain-to (read-zero to) f)
@@ -44,10 +45,11 @@ pub record WhereverFilled (P : Flows → Type 0) (f : Flows) : Type 0 where
 abbrev pub AlwaysFair : Type 0
 AlwaysFair = (turns : List Turn) → T (all typed turns) → WhereverFilled FairFilling (run fresh turns)
 
--- A filling ends when none is unfrozen, though its definition has a bound on the rounds. (01, Filling)
+-- The filling of a simulator's transfers has ended with nobody unfrozen, and not because its rounds ran out. (01, Filling)
 abbrev pub AllFrozen : Flows → Type 0
 AllFrozen f = num-unfrozen (recompute-rates (path-of f) (f .edges) (f .«in_flight»)) ≡ 0
 
+-- A filling ends when none is unfrozen, whenever rates are worked out. (01, Filling)
 abbrev pub AlwaysEnds : Type 0
 AlwaysEnds = (turns : List Turn) → T (all typed turns) → WhereverFilled AllFrozen (run fresh turns)
 

@@ -1,6 +1,6 @@
 -- Submission: a transfer starts. (01, Numbers and Clock) Definitions only.
 use Prim.Native.Nat.{ℕ, _+_, _-_, _^_, max}
-use mathlib.Core.Bool.{Bool, true, _||_, cond}
+use mathlib.Core.Bool.{true, _||_, cond}
 use mathlib.Core.List.{List, [], _∷_}
 use lib.Dec.{ltb, eqb}
 use lib.Ieee.{Float}
