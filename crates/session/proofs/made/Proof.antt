@@ -1,5 +1,6 @@
 -- `session::made` meets its contract: the call is made, and what it lists has room in its buffer. Assumes nothing.
-use mathlib.Core.Path.{refl}
+use mathlib.Core.Path.{ap}
+use Rattle.rules.specs.declared.Made.{Made}
 use Rattle.flows.proofs.Fitting.{call-fits}
 use borrow.Author.Needs.{needs}
 use Rattle.session.proofs.made.Statement.{statement}
@@ -23,7 +24,7 @@ same-length c = search needs
 returns : tie.Need-returns
 returns c =
     let make = c .before .before .before .before .before .before .before .make in
-    (rw (make .ensures .0) refl, (make .ensures .1 .1, c .before .said .ensures))
+    (ap (λ (m : Made). m .flows) (make .ensures .0), (make .ensures .1 .1, c .before .said .ensures))
 
 pub made-spec : {M : Type 1} → statement M
 made-spec = tie.close (tie.spec make-requires width-requires said-requires same-length returns)
