@@ -2,6 +2,7 @@
 import glob
 import os
 import re
+import sys
 
 ROOT = os.path.dirname(os.path.dirname(os.path.abspath(__file__)))
 SIGNATURE = re.compile(r"\bpub(\(crate\))?\s+(?:extern\s+\"C\"\s+)?fn\s+(\w+)")
@@ -17,6 +18,18 @@ class Function:
     @property
     def key(self):
         return f"{self.crate}::{self.name}"
+
+
+def asked(doc, option):
+    """Whether a tool was given its one option. --help tells of it and ends it, and anything else is refused in a line."""
+    given = sys.argv[1:]
+    if given in (["-h"], ["--help"]):
+        print(doc.strip())
+        sys.exit(0)
+    if given not in ([], [option]):
+        print(f"usage: {os.path.basename(sys.argv[0])} [{option}]", file=sys.stderr)
+        sys.exit(2)
+    return given == [option]
 
 
 def crates():
