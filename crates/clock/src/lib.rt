@@ -102,12 +102,13 @@ pub fn pass_time(flows: Flows, load: [usize; 64], until: f64) -> Flows
     let clock = flows.clock;
     let next_done_at = clock.next_done_at;
     let dt = until - clock.now;
-    let mut after = flows;
+    let mut edges = flows.edges;
     if dt > 0.0 {
-        let edges = flows.edges;
         let busy = crossings::gain_busy_all(edges, load, dt);
-        after.edges = busy;
+        edges = busy;
     }
+    let mut after = flows;
+    after.edges = edges;
     let moved = Clock {
         now: until,
         rates_dirty: clock.rates_dirty,

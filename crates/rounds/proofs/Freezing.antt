@@ -8,7 +8,7 @@ use native.Mathlib.Omega.{arith}
 use lib.Dec.{ltb}
 use lib.Ieee.{Float, nan}
 use lib.ListN.{length, getD, take, drop, set, length-set, drop-of-length-le}
-use lib.Seq.{take-all, drop-nil, ext-getD}
+use lib.Seq.{take-all, drop-nil, drop-drop, drop-set-lt, getD-drop, ext-getD}
 use borrow.Author.Tests.{ltb-true, ltb-false}
 use Rattle.rules.specs.declared.Seat.{Seat}
 use Rattle.rules.specs.declared.Verdict.{Verdict}
@@ -16,6 +16,7 @@ use Rattle.rules.specs.Lists.{count, sum, map-from, crossings, at-each-crossing
 use Rattle.rules.specs.Records.{own-path}
 use Rattle.rules.specs.Filling.{Filling, with-rate, load, rate-by, names, freezes, freeze, crossings-frozen, spend}
 use Rattle.rules.proofs.Steps.{count-one, map-from-one, length-map-from, getD-map-from, map-from-take}
+use Rattle.rules.specs.Invariant.{SoundRoute}
 use Rattle.fairness.specs.Ready.{no-seat}
 use Rattle.rules.proofs.Crossings.{crosses-some}
 use Rattle.paths.specs.Known.{Known}
@@ -89,6 +90,7 @@ module _ (v : Verdict) (old : List Seat) where
   pub record Freezing (whole : List Float) (seats : List Seat) (residual : List Float) (table : List ℕ) (left i : ℕ) : Type 0 where
     pub within : i ≤ 256
     pub places : length seats ≡ 256
+    pub behind : drop i seats ≡ drop i old
     pub done : take i seats ≡ take i new
     pub edges : length residual ≡ 64
     pub spent : (e : ℕ) → e < 64 → times (going i e) (spent-by v) (getD residual e nan) ≡ times (crossings-frozen own-path v old e) (spent-by v) (getD whole e nan)
@@ -102,6 +104,7 @@ module _ (v : Verdict) (old : List Seat) where
   freezing-starts whole table all edges loads = record {
     within = omega arith;
     places = all;
+    behind = refl;
     done = refl;
     edges = edges;
     spent = λ e h. refl;
@@ -124,23 +127,30 @@ module _ (v : Verdict) (old : List Seat) where
 
     module _ (d : Seat) (h : i < 256) where
       abbrev was : Seat
-      was = getD old i d
+      was = getD seats i d
+
+      -- a seat whose turn has not come is as it was
+      is-old : was ≡ getD old i d
+      is-old = let z : i + 0 ≡ i = omega arith in ap (λ (n : ℕ). getD seats n d) (sym z) ∙ sym (getD-drop i seats 0 d) ∙ ap (λ (l : List Seat). getD l 0 d) (freezing .behind) ∙ getD-drop i old 0 d ∙ ap (λ (n : ℕ). getD old n d) z
 
       abbrev path : List ℕ
       path = own-path (was .transfer)
 
       new-at : getD new i no-seat ≡ freeze own-path v i was
-      new-at = let z : 0 + i ≡ i = omega arith in getD-map-from 0 (freeze own-path v) old i d no-seat (omega (arith, all)) ∙ ap (λ (n : ℕ). freeze own-path v n was) z
+      new-at = let z : 0 + i ≡ i = omega arith in getD-map-from 0 (freeze own-path v) old i d no-seat (omega (arith, all)) ∙ ap (λ (n : ℕ). freeze own-path v n (getD old i d)) z ∙ ap (freeze own-path v i) (sym is-old)
 
       -- how an edge stands to those left
       stands : (e : ℕ) → e < 64 → (getD table e 0 + (waiting e (freeze own-path v i was) + load own-path (drop (i + 1) new) e) ≡ load own-path new e + (waiting e was + load own-path (drop (i + 1) old) e)) × (waiting e (freeze own-path v i was) + load own-path (drop (i + 1) new) e ≤ load own-path new e)
       stands e k =
           let later : load own-path (drop i new) e ≡ waiting e (freeze own-path v i was) + load own-path (drop (i + 1) new) e = load-one new i no-seat (omega (arith, new-length)) e ∙ ap (λ (s : Seat). waiting e s + load own-path (drop (i + 1) new) e) new-at in
-          (omega (arith, freezing .loaded e k, later, load-one old i d (omega (arith, all)) e), omega (arith, later, load-behind new i e))
+          (omega (arith, freezing .loaded e k, later, load-one old i d (omega (arith, all)) e, ap (waiting e) is-old), omega (arith, later, load-behind new i e))
+
+      path-sound : Routed old → SoundRoute 64 (was .transfer .path)
+      path-sound routed = rw is-old (route-at old routed i d (omega (arith, all)))
 
       path-known : Routed old → Known 64 path
       unfolding own-path
-      path-known routed = known-route (route-at old routed i d (omega (arith, all)))
+      path-known routed = known-route (path-sound routed)
 
       -- the loads count a seat that waits
       path-counted : Routed old → was .unfrozen ≡ true → (e : ℕ) → crossings e path ≤ getD table e 0
@@ -157,7 +167,7 @@ module _ (v : Verdict) (old : List Seat) where
       freezing-asks routed = record {
         edges = freezing .edges;
         loads = freezing .loads;
-        path = route-at old routed i d (omega (arith, all));
+        path = path-sound routed;
         counted = λ u. record { counted = path-counted routed u };
       }
 
@@ -182,6 +192,7 @@ module _ (v : Verdict) (old : List Seat) where
         spent-one e k =
             ap (times (going (i + 1) e) (spent-by v)) (residual-at e k)
             ∙ sym (times-add (gone v i was e) (going (i + 1) e) (spent-by v) (getD residual e nan))
+            ∙ ap (λ (s : Seat). times (gone v i s e + going (i + 1) e) (spent-by v) (getD residual e nan)) is-old
             ∙ ap (λ (l : List ℕ). times (sum l) (spent-by v) (getD residual e nan)) (sym (map-from-one old i d (omega (arith, all)) (λ j s. gone v j s e)))
             ∙ freezing .spent e k
 
@@ -209,7 +220,8 @@ module _ (v : Verdict) (old : List Seat) where
           freezing-one s left′ is-seat is-left = record {
             within = omega arith;
             places = length-set seats i s ∙ freezing .places;
-            done = rw is-seat (map-from-take (freeze own-path v) old seats i d no-seat (omega (arith, all)) (omega (arith, freezing .places)) (freezing .done));
+            behind = drop-set-lt (i + 1) seats i s (omega arith) ∙ sym (drop-drop 1 i seats) ∙ ap (drop 1) (freezing .behind) ∙ drop-drop 1 i old;
+            done = rw (is-seat, is-old) (map-from-take (freeze own-path v) old seats i d no-seat (omega (arith, all)) (omega (arith, freezing .places)) (freezing .done));
             edges = residual-length;
             spent = spent-one;
             loads = table-length;

@@ -177,27 +177,24 @@ pub fn round(f: Scratch, v: Verdict, cursor: usize) -> Scratch
     requires few { ⌜ f .rounds < 256 ⌝ }
     ensures { λ r. ⌜ Frozen f v cursor r ⌝ }
 {
-    let old = f.seats;
-    let mut seats = f.seats;
+    let mut after = f;
     let mut residual = f.residual;
     let mut load = f.load;
     let mut unfrozen: usize = 0;
     let mut i: usize = 0;
     while i < 256 {
-        let was = old[i];
+        let was = after.seats[i];
         let s = freeze(&mut residual, &mut load, v, i, was);
         if s.unfrozen {
             unfrozen += 1;
         }
-        seats[i] = s;
+        after.seats[i] = s;
         i += 1;
     }
-    Scratch {
-        seats: seats,
-        residual: residual,
-        load: load,
-        unfrozen: unfrozen,
-        cap_cursor: cursor,
-        rounds: f.rounds + 1,
-    }
+    after.residual = residual;
+    after.load = load;
+    after.unfrozen = unfrozen;
+    after.cap_cursor = cursor;
+    after.rounds = f.rounds + 1;
+    after
 }

@@ -16,13 +16,13 @@ gain-busy-all-requires c κs = search needs
 returns : tie.Need-returns
 unfolding pass-time at-time with-clock with-edges
 returns c =
-    let start = c .before .before .before in
+    let start = c .before .before .before .before in
     let flows = start .args .flows in
     let dt = start .args .until ⊖ flows .clock .now in
     ⊎-elim
     (λ w.
-    let busy : w .2 .result ≡ map-from 0 (λ e edge. gain-busy dt (crossings-by counts-in-loads (path-of flows) (flows .«in_flight») e) edge) (flows .edges) = w .2 .ensures ∙ busy-by-load flows (start .pre .0) (start .args .load) (start .pre .1) dt in
-    rw (w .3, w .0 .taken, ← busy))
+    let busy : w .1 .result ≡ map-from 0 (λ e edge. gain-busy dt (crossings-by counts-in-loads (path-of flows) (flows .«in_flight») e) edge) (flows .edges) = w .1 .ensures ∙ busy-by-load flows (start .pre .0) (start .args .load) (start .pre .1) dt in
+    rw (w .2, w .0 .taken, ← busy))
     (λ w. rw (w .1, w .0 .left))
     (c .if1 .came)
 
