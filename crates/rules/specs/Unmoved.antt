@@ -4,6 +4,7 @@ use Rattle.rules.specs.declared.Answer.{Answer}
 use Rattle.rules.specs.declared.Answer.the-variants.{Done, Added, Listed, Nothing, Unknown, Value, Due, Refused}
 use Rattle.rules.specs.declared.Call.{Call}
 use Rattle.rules.specs.declared.Call.the-variants.{Advance, Submit, Cancel, AddEdge, Widen, TakeCompleted, OwnersWithCompletions, NextCompletionDelay, EstimateNew, EstimateRemaining, MeanInFlight, Rate, Edge, Contains, Rounds}
+use Rattle.rules.specs.declared.EdgeRead.the-variants as EdgeRead-variants
 use Rattle.rules.specs.declared.Said.{Said}
 use Rattle.rules.specs.declared.Said.the-variants as Said-variants
 
@@ -18,10 +19,11 @@ is-no (Value x) = false
 is-no (Due d) = false
 is-no (Refused n) = true
 
--- The same of whatever was said. (01, Numbers)
+-- The same of whatever was said; an edge that there is not is refused, too. (01, Numbers)
 unfoldable pub says-no : Said → Bool
 says-no (Said-variants.Answered answer) = is-no answer
-says-no (Said-variants.Edge e) = false
+says-no (Said-variants.Edge (EdgeRead-variants.Found e)) = false
+says-no (Said-variants.Edge (EdgeRead-variants.Refused n)) = true
 says-no (Said-variants.Truth b) = false
 says-no (Said-variants.Number n) = false
 
