@@ -154,7 +154,7 @@ module _ (id : ℕ) (owner : Owner) (path : List ℕ) (bytes : ℕ) (latency : F
 
 module _ (id : ℕ) (owner : Owner) (path : List ℕ) (bytes : ℕ) (latency : Float) (cap : Cap) (until : Float) (f : Flows) where
   pub submitted-keeps : Submittable id owner path bytes latency cap f → Reached until f (drain-to until f) → Invariant (submitted id owner path bytes latency cap until f)
-  unfolding submitted peak-taken num-in-flight with-in-flight with-totals
+  unfolding submitted submitted-transfer peak-taken num-in-flight with-in-flight with-totals
   submitted-keeps s reached =
       let g = drain-to until f in
       let one = submitted-transfer id owner path bytes latency cap until in

@@ -73,7 +73,6 @@ started t bytes f = made-stale (joined t (on-tally (t .owner) (count-submitted b
 
 -- The simulator with a submitted transfer. (01, Clock)
 unfoldable pub submitted : ℕ → Owner → List ℕ → ℕ → Float → Cap → Float → Flows → Flows
-unfolding submitted-transfer
 submitted id owner path bytes latency cap T f = started (submitted-transfer id owner path bytes latency cap T) bytes f
 
 -- A transfer starts at the time T, with or without a cap of its own. (01, Numbers and Clock)
