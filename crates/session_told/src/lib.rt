@@ -32,7 +32,7 @@ pub fn said(said: Said, width: usize, lent: &[u32], page: &mut [u8; 65536], at: 
     ensures { λ r. ⌜ r ≤ 65536 ⌝ }
 {
     match said {
-        Said::Answered(answer) => listed(answer, width, lent, page, at),
+        Said::Answered(given) => answer(given, width, lent, page, at),
         Said::Edge(read) => edge_read(page, at, read),
         Said::Truth(yes) => truth(page, at, yes),
         Said::Number(n) => numbered(page, at, b"number", n as u64),
@@ -59,41 +59,28 @@ fn truth(page: &mut [u8; 65536], at: usize, yes: bool) -> usize
     put_text(page, at, b"no\n")
 }
 
-// An answer that lists nothing.
-fn answer(answer: Answer, page: &mut [u8; 65536], at: usize) -> usize
-    requires { ⌜ at ≤ 49152 ⌝ }
+// An answer, with the list and what became of the buffer where it was lent one.
+fn answer(answer: Answer, width: usize, lent: &[u32], page: &mut [u8; 65536], at: usize) -> usize
+    requires { ⌜ Fits width (length (now lent)) answer ⌝ }
+    requires { ⌜ (length (now lent) ≤ 1024) × (at ≤ 49152) ⌝ }
     ensures { λ r. ⌜ r ≤ 65536 ⌝ }
 {
     match answer {
         Answer::Done => put_text(page, at, b"done\n"),
         Answer::Added(edge) => numbered(page, at, b"edge", edge as u64),
-        Answer::Listed(n) => numbered(page, at, b"list", n as u64),
-        Answer::Nothing => put_text(page, at, b"nothing\n"),
-        Answer::Unknown => put_text(page, at, b"unknown\n"),
-        Answer::Value(x) => valued(page, at, b"value ", x),
-        Answer::Due(delay) => due(page, at, delay),
-        Answer::Refused(n) => numbered(page, at, b"refused", n as u64),
-    }
-}
-
-// An answer, with the list and what became of the buffer where it was lent one.
-fn listed(said: Answer, width: usize, lent: &[u32], page: &mut [u8; 65536], at: usize) -> usize
-    requires { ⌜ Fits width (length (now lent)) said ⌝ }
-    requires { ⌜ (length (now lent) ≤ 1024) × (at ≤ 49152) ⌝ }
-    ensures { λ r. ⌜ r ≤ 65536 ⌝ }
-{
-    match said {
         Answer::Listed(n) => list(page, at, n, width, lent),
         Answer::Nothing => {
             let next = put_text(page, at, b"nothing");
             unwritten(page, next, lent)
         }
+        Answer::Unknown => put_text(page, at, b"unknown\n"),
+        Answer::Value(x) => valued(page, at, b"value ", x),
+        Answer::Due(delay) => due(page, at, delay),
         Answer::Refused(n) => {
             let next = put_text(page, at, b"refused");
             let next = spaced_short(page, next, n);
             unwritten(page, next, lent)
         }
-        _ => answer(said, page, at),
     }
 }
 

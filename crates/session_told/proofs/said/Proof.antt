@@ -7,9 +7,9 @@ use Rattle.session_told.proofs.said.Tie as tie
 enum-known-said : tie.Need-enum-known-said
 enum-known-said c = search needs
 
-listed-requires : tie.Need-listed-requires
+answer-requires : tie.Need-answer-requires
 unfolding FitsSaid
-listed-requires c κs = (rw (c .before .before .said .given .1) at (c .before .before .before .before .before .pre .0), search needs)
+answer-requires c κs = (rw (c .before .before .said .given .1) at (c .before .before .before .before .before .pre .0), search needs)
 
 enum-known-said-2 : tie.Need-enum-known-said-2
 enum-known-said-2 c = search needs
@@ -49,7 +49,7 @@ said-spec =
     tie.close
     (tie.spec
     enum-known-said
-    listed-requires
+    answer-requires
     enum-known-said-2
     edge-read-requires
     enum-known-said-3
