@@ -1,5 +1,4 @@
--- Drained to a time with rates up to date there, a simulator is sound and all in flight stand at its clock; and while rates are up to date the load table has the edges' number.
--- Assumes nothing.
+-- Drained to a time with rates up to date there, a simulator is sound and all in flight stand at its clock; and while rates are up to date the load table is right. Assumes nothing.
 use mathlib.Core.Path.{_≡_, sym, ap, _∙_}
 use mathlib.Core.Bool.{false}
 use lib.Dec.{T}
@@ -18,10 +17,6 @@ settled-at {until} {f} inv time later =
     let r = ensure-rates-refreshes (drain-to-keeps inv time later) in
     let all = drained-all inv time later in
     record { at = λ i e. refreshed-at until r (all .0) i e ∙ sym (r .now ∙ all .1) }
-
-pub fresh-number : {f : Flows} → Invariant f → f .clock .«rates_dirty» ≡ false → f .«edge_load» .len ≡ f .«num_edges»
-unfolding edge-loads
-fresh-number inv fresh = ap (λ (l : EdgeLoad). l .len) (inv .load-right fresh)
 
 pub fresh-load : {f : Flows} → Invariant f → f .clock .«rates_dirty» ≡ false → f .«edge_load» .load ≡ edge-loads f .load
 fresh-load inv fresh = ap (λ (l : EdgeLoad). l .load) (inv .load-right fresh)
