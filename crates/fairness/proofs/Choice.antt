@@ -3,7 +3,7 @@
 use mathlib.Core.Path.{_≡_, refl}
 use mathlib.Core.Bool.{Bool, true, false}
 use mathlib.Core.List.{List}
-use Prim.Native.Nat.{ℕ, zero, suc, _+_, _^_, _≤_, _<_}
+use Prim.Native.Nat.{ℕ, _+_, _^_, _≤_, _<_}
 use native.Mathlib.Omega.{arith}
 use lib.ListN.{length, getD}
 use lib.Ieee.{Float}
@@ -20,7 +20,8 @@ use Rattle.rules.specs.declared.Best.the-variants.{At, Nobody}
 use Rattle.rules.specs.Filling.{Filling, tightest, load, share, winning-edge, own-cap, smallest-cap}
 use Rattle.fairness.specs.Ready.{no-seat, seat-at}
 use Rattle.fairness.proofs.Tightest.{PlainBest, Least, tightest-least}
-use Rattle.fairness.proofs.Loads.{unfrozen-inside, smallest-is}
+use Rattle.fairness.proofs.Shares.{smallest-least as least-of-shares}
+use Rattle.fairness.proofs.Loads.{unfrozen-inside, Winning, smallest-is}
 
 module _ (path : Transfer → List ℕ) (f : Filling) where
   -- what is left of edge e, its load and its share
@@ -36,35 +37,16 @@ module _ (path : Transfer → List ℕ) (f : Filling) where
   -- ---- edges
 
   module _ (plain-left : (e : ℕ) → e < length (f .residual) → Plain (left-of e)) (few : (e : ℕ) → e < length (f .residual) → load-of e ≤ 2 ^ 53) where
-    plain-share : (e : ℕ) (r : Float) (l : ℕ) → Plain r → l ≤ 2 ^ 53 → PlainBest (share e r l)
-    unfolding share
-    plain-share e r zero p h = tt
-    plain-share e r (suc l) p h = over-count-plain p (suc l) (omega arith) h
-
-    few-at : (j : ℕ) → j < length (f .residual) → load-of (0 + j) ≤ 2 ^ 53
-    few-at j h = let z : 0 + j ≡ j = omega arith in rw z (few j h)
-
-    share-candidate : (e : ℕ) (r : Float) (l : ℕ) → 0 < l → share e r l ≡ At e (r ⊘ whole l)
-    unfolding share
-    share-candidate e r zero h = absurd (omega arith)
-    share-candidate e r (suc l) h = refl
+    plain-share : (j : ℕ) → j < length (f .residual) → 0 < load-of j → Plain (share-of j)
+    plain-share j h l = over-count-plain (plain-left j h) (load-of j) l (few j h)
 
     -- it has the smallest share
-    pub winning-least : (w : ℕ) (x : Float) → winning-edge path f ≡ At w x → (e : ℕ) → e < length (f .residual) → 0 < load-of e → exact x ≤ exact (share-of e)
-    unfolding winning-edge tightest
-    winning-least w x q e known loaded =
-        let all = tightest-least (λ j r. share j r (load-of j)) 0 (f .residual) nought Nobody tt (λ j h. plain-share (0 + j) (left-of j) (load-of (0 + j)) (plain-left j h) (few-at j h)) in
-        let z : 0 + e ≡ e = omega arith in
-        let least : Least (winning-edge path f) (share e (left-of e) (load-of e)) = rw z at (all .2 e known) in
-        let least′ : Least (At w x) (share e (left-of e) (load-of e)) = rw q at least in
-        rw (share-candidate e (left-of e) (load-of e) loaded) at least′
+    pub winning-least : (e : ℕ) → e < length (f .residual) → 0 < load-of e → exact (winning-edge path f .share) ≤ exact (share-of e)
+    unfolding winning-edge share
+    winning-least e known loaded = least-of-shares (load path (f .seats)) (f .residual) plain-share e known loaded
 
-    pub winning-plain : (w : ℕ) (x : Float) → winning-edge path f ≡ At w x → Plain x
-    unfolding winning-edge tightest
-    winning-plain w x q =
-        let all = tightest-least (λ j r. share j r (load-of j)) 0 (f .residual) nought Nobody tt (λ j h. plain-share (0 + j) (left-of j) (load-of (0 + j)) (plain-left j h) (few-at j h)) in
-        let plain : PlainBest (winning-edge path f) = all .0 in
-        rw q at plain
+    pub winning-plain : Winning path f (winning-edge path f) → Plain (winning-edge path f .share)
+    winning-plain w = rw (w .is-share) (plain-share (winning-edge path f .edge) (w .known) (w .loaded))
 
   -- ---- caps
 

@@ -1,5 +1,6 @@
 pub mod Reading
 pub mod Tightest
+pub mod Shares
 pub mod Loads
 pub mod Choice
 pub mod Rounds

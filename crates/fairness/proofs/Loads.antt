@@ -1,4 +1,4 @@
--- While a seat is unfrozen an edge has load, so there is a winning edge and a round is never decided by nobody. Assumes nothing.
+-- While a seat is unfrozen an edge on its path has load, so there is a winning edge; and why a round decides as it does. Assumes nothing.
 use mathlib.Core.Path.{_≡_, refl, sym, _∙_}
 use mathlib.Core.Logic.{_⊎_, inl, inr}
 use mathlib.Core.Bool.{Bool, true, false, cond, true≢false}
@@ -14,15 +14,17 @@ use Rattle.rules.specs.declared.Transfer.{Transfer}
 use Rattle.rules.specs.declared.Seat.{Seat}
 use Rattle.rules.specs.declared.Best.{Best}
 use Rattle.rules.specs.declared.Best.the-variants.{At, Nobody}
+use Rattle.rules.specs.declared.Share.{Share}
 use Rattle.rules.specs.declared.Verdict.{Verdict}
-use Rattle.rules.specs.declared.Verdict.the-variants.{ByCap, ByEdge, ByNobody}
+use Rattle.rules.specs.declared.Verdict.the-variants.{ByCap, ByEdge}
 use Rattle.rules.specs.Lists.{crossings}
 use Rattle.rules.specs.Filling.{Filling, tightest, load, share, winning-edge, own-cap, smallest-cap, verdict, num-unfrozen}
 use Rattle.fairness.specs.Ready.{no-seat, seat-at, Ready}
 use Rattle.rules.proofs.Counting.{some-of-count}
 use Rattle.rules.proofs.Sums.{sum-at, sum-some}
 use Rattle.rules.proofs.Crossings.{crosses-at}
-use Rattle.fairness.proofs.Tightest.{tightest-among, no-candidate, all-nobody}
+use Rattle.fairness.proofs.Tightest.{tightest-among, no-candidate}
+use Rattle.fairness.proofs.Shares.{smallest-has}
 
 pub unfrozen-inside : (seats : List Seat) (i : ℕ) → getD seats i no-seat .unfrozen ≡ true → i < length seats
 unfrozen-inside [] i h = absurd (true≢false (sym h))
@@ -51,76 +53,47 @@ module _ (path : Transfer → List ℕ) where
       go true h = (refl, h)
       go false h = absurd (omega arith)
 
-  -- P7's fact: whoever is unfrozen has load on its path, on an edge that there is
-  pub unfrozen-has-load : (f : Filling) → Ready path f → (i : ℕ) → seat-at f i .unfrozen ≡ true → (e : ℕ) × (e < length (f .residual)) × (0 < load path (f .seats) e)
+  -- an edge of the filling that has load
+  pub record LoadedEdge (f : Filling) : Type 0 where
+    pub edge : ℕ
+    pub known : edge < length (f .residual)
+    pub loaded : 0 < load path (f .seats) edge
+
+  -- whoever is unfrozen has such an edge on its path
+  pub unfrozen-has-load : (f : Filling) → Ready path f → (i : ℕ) → seat-at f i .unfrozen ≡ true → (l : LoadedEdge f) × (0 < crossings (l .edge) (path (seat-at f i .transfer)))
   unfrozen-has-load f ready i u =
       let rides = ready i u in
       let p = path (seat-at f i .transfer) in
       let some : 0 < length p = omega (arith, rides .some) in
-      (getD p 0 0, omega (arith, rides .known 0 some), omega (arith, crosses-at p 0 some, waits-in-load (f .seats) i (getD p 0 0) u))
+      let crossed = crosses-at p 0 some in
+      (record { edge = getD p 0 0; known = omega (arith, rides .known 0 some); loaded = omega (arith, crossed, waits-in-load (f .seats) i (getD p 0 0) u) }, crossed)
 
-  -- ---- what a candidate says
+  -- so there is one while somebody is
+  pub some-load : (f : Filling) → Ready path f → 0 < num-unfrozen f → LoadedEdge f
+  unfolding num-unfrozen
+  some-load f ready some-left =
+      let i = some-of-count (λ (s : Seat). s .unfrozen) (f .seats) no-seat some-left in
+      unfrozen-has-load f ready (i .0) (i .2) .0
 
-  share-at : (j : ℕ) (r : Float) (l e : ℕ) (x : Float) → share j r l ≡ At e x → (0 < l) × (j ≡ e) × (x ≡ r ⊘ whole l)
-  unfolding share
-  share-at j r zero e x h = no-candidate h
-  share-at j r (suc l) e x h = (omega arith, cc, cc)
+  -- ---- the winning edge
 
-  share-nobody : (j : ℕ) (r : Float) (l : ℕ) → share j r l ≡ Nobody → l ≡ 0
-  unfolding share
-  share-nobody j r zero h = refl
-  share-nobody j r (suc l) h = no-candidate (sym h)
+  -- it is an edge that there is and that has load, with its share
+  pub record Winning (f : Filling) (w : Share) : Type 0 where
+    pub known : w .edge < length (f .residual)
+    pub loaded : 0 < load path (f .seats) (w .edge)
+    pub is-share : w .share ≡ getD (f .residual) (w .edge) nought ⊘ whole (load path (f .seats) (w .edge))
+
+  pub winning-is : (f : Filling) → LoadedEdge f → Winning f (winning-edge path f)
+  unfolding winning-edge share
+  winning-is f l = smallest-has (load path (f .seats)) (Winning f) (f .residual) (λ j h k. record { known = h; loaded = k; is-share = refl }) (l .edge) (l .known) (l .loaded)
+
+  -- ---- the smallest cap
 
   own-cap-at : (j : ℕ) (b : Bool) (k : Cap) (i : ℕ) (c : Float) → own-cap j b k ≡ At i c → (b ≡ true) × (j ≡ i) × (k ≡ AtMost c)
   unfolding own-cap
   own-cap-at j false k i c e = no-candidate e
   own-cap-at j true Uncapped i c e = no-candidate e
   own-cap-at j true (AtMost d) i c e = (refl, cc, cc)
-
-  -- ---- the winning edge
-
-  -- it is an edge that there is and that has load, with its share
-  pub record Winning (f : Filling) (e : ℕ) (x : Float) : Type 0 where
-    pub known : e < length (f .residual)
-    pub loaded : 0 < load path (f .seats) e
-    pub is-share : x ≡ getD (f .residual) e nought ⊘ whole (load path (f .seats) e)
-
-  pub winning-is : (f : Filling) (e : ℕ) (x : Float) → winning-edge path f ≡ At e x → Winning f e x
-  unfolding winning-edge tightest
-  winning-is f e x h = go (tightest-among (λ j r. share j r (load path (f .seats) j)) 0 (f .residual) nought Nobody)
-    where
-      at : (j : ℕ) → j ≡ e → j < length (f .residual) → 0 < load path (f .seats) j → x ≡ getD (f .residual) j nought ⊘ whole (load path (f .seats) j) → Winning f e x
-      at j q k l s = record { known = rw q at k; loaded = rw q at l; is-share = rw q at s }
-
-      go : (winning-edge path f ≡ Nobody) ⊎ ((j : ℕ) × (j < length (f .residual)) × (winning-edge path f ≡ share (0 + j) (getD (f .residual) j nought) (load path (f .seats) (0 + j)))) → Winning f e x
-      go (inl q) = no-candidate (sym q ∙ h)
-      go (inr (j, l, q)) =
-          let z : 0 + j ≡ j = omega arith in
-          let r = share-at j (getD (f .residual) j nought) (load path (f .seats) j) e x (sym (rw z at q) ∙ h) in
-          at j (r .1) l (r .0) (r .2)
-
-  -- an edge with load makes for a winning one
-  pub loaded-wins : (f : Filling) (e : ℕ) → e < length (f .residual) → 0 < load path (f .seats) e → (w : ℕ) × (x : Float) × (winning-edge path f ≡ At w x)
-  unfolding winning-edge tightest
-  loaded-wins f e known loaded = go (winning-edge path f) refl
-    where
-      go : (b : Best) → winning-edge path f ≡ b → (w : ℕ) × (x : Float) × (b ≡ At w x)
-      go (At w x) q = (w, x, refl)
-      go Nobody q =
-          let z : 0 + e ≡ e = omega arith in
-          let none = share-nobody (0 + e) (getD (f .residual) e nought) (load path (f .seats) (0 + e)) (all-nobody (λ j r. share j r (load path (f .seats) j)) 0 (f .residual) nought Nobody q .1 e known) in
-          let none′ : load path (f .seats) e ≡ 0 = rw z at none in
-          absurd (omega arith)
-
-  -- while somebody is unfrozen there is a winning edge
-  pub unfrozen-has-winner : (f : Filling) → Ready path f → 0 < num-unfrozen f → (w : ℕ) × (x : Float) × (winning-edge path f ≡ At w x)
-  unfolding num-unfrozen
-  unfrozen-has-winner f ready some-left =
-      let i = some-of-count (λ (s : Seat). s .unfrozen) (f .seats) no-seat some-left in
-      let e = unfrozen-has-load f ready (i .0) (i .2) in
-      loaded-wins f (e .0) (e .1) (e .2)
-
-  -- ---- the smallest cap
 
   -- it is the cap of somebody unfrozen
   pub record Smallest (f : Filling) (i : ℕ) (c : Float) : Type 0 where
@@ -143,29 +116,25 @@ module _ (path : Transfer → List ℕ) where
 
   -- ---- the verdict
 
-  -- why a verdict: the smallest cap lies strictly below the winning edge's share, or there is no such cap
+  -- why a verdict: the smallest cap lies strictly below the winning edge's share, or it does not
   abbrev pub Decided : Filling → Verdict → Type 0
-  Decided f (ByCap i c) = (smallest-cap f ≡ At i c) × ((e : ℕ) × (x : Float) × (winning-edge path f ≡ At e x) × ((c ≺ x) ≡ true))
-  Decided f (ByEdge e x) = (winning-edge path f ≡ At e x) × ((i : ℕ) (c : Float) → smallest-cap f ≡ At i c → (c ≺ x) ≡ false)
-  Decided f ByNobody = ⊥
+  Decided f (ByCap i c) = (smallest-cap f ≡ At i c) × ((c ≺ winning-edge path f .share) ≡ true)
+  Decided f (ByEdge e x) = (e ≡ winning-edge path f .edge) × (x ≡ winning-edge path f .share) × ((i : ℕ) (c : Float) → smallest-cap f ≡ At i c → (c ≺ x) ≡ false)
 
-  -- while somebody is unfrozen a verdict has its reason
-  pub verdict-decided : (f : Filling) → Ready path f → 0 < num-unfrozen f → Decided f (verdict (smallest-cap f) (winning-edge path f))
+  pub verdict-decided : (f : Filling) → Decided f (verdict (smallest-cap f) (winning-edge path f))
   unfolding verdict
-  verdict-decided f ready some-left =
-      let win = unfrozen-has-winner f ready some-left in
-      rw (win .2) (go (smallest-cap f) refl (win .0) (win .1) (win .2))
+  verdict-decided f = go (smallest-cap f) refl
     where
-      go : (b : Best) → smallest-cap f ≡ b → (e : ℕ) (x : Float) → winning-edge path f ≡ At e x → Decided f (verdict b (At e x))
-      go Nobody p e x q = (q, λ i c h. no-candidate (sym p ∙ h))
-      go (At i c) p e x q = pick (c ≺ x) refl
-        where
-          pick : (b : Bool) → (c ≺ x) ≡ b → Decided f (cond b (ByCap i c) (ByEdge e x))
-          pick true r = (p, (e, x, q, r))
-          pick false r = (q, λ j d h. same j d (sym p ∙ h))
-            where
-              same : (j : ℕ) (d : Float) → At i c ≡ At j d → (d ≺ x) ≡ false
-              same j d h = let z : d ≡ c = cc in rw z r
+      w : Share
+      w = winning-edge path f
 
-  pub never-by-nobody : (f : Filling) → Ready path f → 0 < num-unfrozen f → verdict (smallest-cap f) (winning-edge path f) ≡ ByNobody → ⊥
-  never-by-nobody f ready some-left e = rw e at (verdict-decided f ready some-left)
+      go : (b : Best) → smallest-cap f ≡ b → Decided f (verdict b w)
+      go Nobody p = (refl, refl, λ i c h. no-candidate (sym p ∙ h))
+      go (At i c) p = pick (c ≺ w .share) refl
+        where
+          pick : (b : Bool) → (c ≺ w .share) ≡ b → Decided f (cond b (ByCap i c) (ByEdge (w .edge) (w .share)))
+          pick true r = (p, r)
+          pick false r = (refl, refl, λ j d h. same j d (sym p ∙ h))
+            where
+              same : (j : ℕ) (d : Float) → At i c ≡ At j d → (d ≺ w .share) ≡ false
+              same j d h = let z : d ≡ c = cc in rw z r

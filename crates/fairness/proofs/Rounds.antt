@@ -11,7 +11,7 @@ use borrow.Author.Tests.{eqb-true, eqb-false, eq-eqb}
 use Rattle.rules.specs.declared.Transfer.{Transfer}
 use Rattle.rules.specs.declared.Seat.{Seat}
 use Rattle.rules.specs.declared.Verdict.{Verdict}
-use Rattle.rules.specs.declared.Verdict.the-variants.{ByCap, ByEdge, ByNobody}
+use Rattle.rules.specs.declared.Verdict.the-variants.{ByCap, ByEdge}
 use Rattle.rules.specs.Filling.{Filling, with-rate, winning-edge, smallest-cap, verdict, rate-by, names, freezes, freeze, frozen-by, round, num-unfrozen, rounds-until}
 use Rattle.rules.proofs.Steps.{length-map-from}
 use Rattle.fairness.specs.Ready.{no-seat, seat-at, Ready}
@@ -19,7 +19,7 @@ use Rattle.fairness.proofs.Reading.{KeepsPath}
 use Rattle.rules.proofs.Numbered.{getD-map-all}
 use Rattle.rules.proofs.Counting.{count-drops}
 use Rattle.rules.proofs.Crossings.{crosses-any}
-use Rattle.fairness.proofs.Loads.{unfrozen-inside, load-is-waited, winning-is, smallest-is, Decided, verdict-decided}
+use Rattle.fairness.proofs.Loads.{unfrozen-inside, load-is-waited, some-load, Winning, winning-is, smallest-is, Decided, verdict-decided}
 
 -- A seat frozen at a rate.
 abbrev pub frozen-at : Float → Seat → Seat
@@ -109,19 +109,18 @@ module _ (path : Transfer → List ℕ) where
   abbrev Hits : Verdict → Filling → Type 0
   Hits v f = (j : ℕ) × (seat-at f j .unfrozen ≡ true) × (names v j (path (seat-at f j .transfer)) ≡ true)
 
-  decided-hits : (f : Filling) (v : Verdict) → Decided path f v → Hits v f
+  decided-hits : (f : Filling) (v : Verdict) → Winning path f (winning-edge path f) → Decided path f v → Hits v f
   unfolding names
-  decided-hits f (ByCap i c) d = (i, smallest-is path f i c (d .0) .waits, eq-eqb i i refl)
-  decided-hits f (ByEdge e x) d =
-      let r = load-is-waited path (f .seats) e (winning-is path f e x (d .0) .loaded) in
+  decided-hits f (ByCap i c) wins d = (i, smallest-is path f i c (d .0) .waits, eq-eqb i i refl)
+  decided-hits f (ByEdge e x) wins d =
+      let r = load-is-waited path (f .seats) e (rw (d .0) (wins .loaded)) in
       (r .0, r .1, crosses-any e (path (seat-at f (r .0) .transfer)) (r .2))
-  decided-hits f ByNobody d = absurd d
 
   pub round-freezes : (f : Filling) → Ready path f → 0 < num-unfrozen f → num-unfrozen (round path f) < num-unfrozen f
   unfolding round frozen-by num-unfrozen
   round-freezes f ready some-left =
       let v = verdict-of f in
-      let hit = decided-hits f v (verdict-decided path f ready some-left) in
+      let hit = decided-hits f v (winning-is path f (some-load path f ready some-left)) (verdict-decided path f) in
       let z : 0 + hit .0 ≡ hit .0 = omega arith in
       count-drops (λ (s : Seat). s .unfrozen) (freeze path v) (never-unfreezes v) 0 (f .seats) (hit .0) no-seat (unfrozen-inside (f .seats) (hit .0) (hit .1)) (hit .1)
       (rw z (freeze-freezes v (hit .0) (seat-at f (hit .0)) (named-freezes v (hit .0) (seat-at f (hit .0)) (hit .1) (hit .2))))

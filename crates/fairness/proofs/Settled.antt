@@ -21,7 +21,7 @@ use Rattle.rules.specs.Filling.{Filling, crossings-frozen, spend, frozen-by, ro
 use Rattle.rules.proofs.Steps.{getD-map-from}
 use Rattle.fairness.specs.Ready.{seat-at, Ready}
 use Rattle.fairness.proofs.Reading.{KeepsPath}
-use Rattle.fairness.proofs.Loads.{verdict-decided}
+use Rattle.fairness.proofs.Loads.{some-load, winning-is, verdict-decided}
 use Rattle.fairness.proofs.Choice.{left-of, load-of}
 use Rattle.fairness.proofs.Rounds.{verdict-of, rate-of}
 use Rattle.fairness.proofs.Account.{AtMostShare, Paced, paced-round}
@@ -98,7 +98,7 @@ module _ {path : Transfer → List ℕ} {edges : List Edge} {K : ℕ → ℕ} (s
   -- the round decides as it should
   pub choice-of : Ready path f → 0 < num-unfrozen f → Chosen path f (verdict-of path f) (rate-of path f)
   choice-of ready some-left =
-      chosen path f (λ e h. fills .accounts e (omega (arith, fills .long)) .plain) (λ e h. few-load e (omega (arith, fills .long))) (fills .plain-caps) (verdict-of path f) (verdict-decided path f ready some-left)
+      chosen path f (λ e h. fills .accounts e (omega (arith, fills .long)) .plain) (λ e h. few-load e (omega (arith, fills .long))) (fills .plain-caps) (verdict-of path f) (winning-is path f (some-load path f ready some-left)) (verdict-decided path f)
 
 module _ {path : Transfer → List ℕ} {edges : List Edge} {K : ℕ → ℕ} (sound : Sound path edges K) {f : Filling} (fills : Fills path edges K f)
     (choice : Chosen path f (verdict-of path f) (rate-of path f)) where

@@ -1,5 +1,5 @@
--- The tightest of some candidates is one of them, is nobody only where all are, and is not above any. Assumes nothing.
-use mathlib.Core.Path.{_≡_, refl, sym, _∙_}
+-- The tightest of some caps is one of them, and is not above any. Assumes nothing.
+use mathlib.Core.Path.{_≡_, refl, _∙_}
 use mathlib.Core.Logic.{_⊎_, inl, inr}
 use mathlib.Core.Bool.{Bool, true, false, cond}
 use mathlib.Core.List.{List, [], _∷_, foldl}
@@ -42,42 +42,17 @@ module _ {A : Type 0} (g : ℕ → A → Best) where
       go (inl e) (inr e′) = let z : n + 0 ≡ n = omega arith in inr (0, omega arith, rw z (e ∙ e′))
       go (inr (j, h, e)) e′ = let z : n + suc j ≡ suc n + j = omega arith in inr (suc j, omega arith, rw z e)
 
--- ---- nobody only of nobodies
-
 pub no-candidate : {A : Type 0} {i : ℕ} {a : Float} → Nobody ≡ At i a → A
 no-candidate e = let z : _≡_ {A = ℕ} 0 1 = cc in absurd (omega arith)
 
-tighter-nobody : (x y : Best) → tighter x y ≡ Nobody → (x ≡ Nobody) × (y ≡ Nobody)
-unfolding tighter
-tighter-nobody Nobody y e = (refl, e)
-tighter-nobody (At i a) Nobody e = no-candidate (sym e)
-tighter-nobody (At i a) (At j b) e = go (b ≺ a) e
-  where
-    go : (c : Bool) → cond c (At j b) (At i a) ≡ Nobody → (At i a ≡ Nobody) × (At j b ≡ Nobody)
-    go true e = no-candidate (sym e)
-    go false e = no-candidate (sym e)
-
-module _ {A : Type 0} (g : ℕ → A → Best) where
-  pub all-nobody : (n : ℕ) (xs : List A) (d : A) (b : Best) → foldl tighter b (map-from n g xs) ≡ Nobody → (b ≡ Nobody) × ((j : ℕ) → j < length xs → g (n + j) (getD xs j d) ≡ Nobody)
-  unfolding map-from
-  all-nobody n [] d b e = (e, λ j h. absurd (omega arith))
-  all-nobody n (x ∷ xs) d b e =
-      let r = all-nobody (suc n) xs d (tighter b (g n x)) e in
-      let both = tighter-nobody b (g n x) (r .0) in
-      (both .0, at (both .1) (r .1))
-    where
-      at : g n x ≡ Nobody → ((j : ℕ) → j < length xs → g (suc n + j) (getD xs j d) ≡ Nobody) → (j : ℕ) → j < length (x ∷ xs) → g (n + j) (getD (x ∷ xs) j d) ≡ Nobody
-      at here rest zero h = let z : n + 0 ≡ n = omega arith in rw z here
-      at here rest (suc j) h = let z : n + suc j ≡ suc n + j = omega arith in rw z (rest j (omega arith))
-
 -- ---- not above any
 
--- a candidate's value, where there is one, is plain
+-- a cap, where there is one, is plain
 abbrev pub PlainBest : Best → Type 0
 PlainBest Nobody = Unit {0}
 PlainBest (At i x) = Plain x
 
--- the first is a candidate no greater than the second, unless that is nobody
+-- the first is a cap no greater than the second, unless that is nobody's
 abbrev pub Least : Best → Best → Type 0
 Least b Nobody = Unit {0}
 Least Nobody (At j y) = ⊥

@@ -16,12 +16,12 @@ use Rattle.doubles.proofs.Ordered.{lt→exact}
 use Rattle.rules.specs.declared.Cap.the-variants.{AtMost}
 use Rattle.rules.specs.declared.Transfer.{Transfer}
 use Rattle.rules.specs.declared.Verdict.{Verdict}
-use Rattle.rules.specs.declared.Verdict.the-variants.{ByCap, ByEdge, ByNobody}
+use Rattle.rules.specs.declared.Verdict.the-variants.{ByCap, ByEdge}
 use Rattle.rules.specs.Lists.{crossings}
-use Rattle.rules.specs.Filling.{Filling, rate-by, names, freezes}
+use Rattle.rules.specs.Filling.{Filling, winning-edge, rate-by, names, freezes}
 use Rattle.fairness.specs.Ready.{seat-at}
 use Rattle.rules.proofs.Crossings.{crosses-any, any-crosses}
-use Rattle.fairness.proofs.Loads.{winning-is, smallest-is, Decided}
+use Rattle.fairness.proofs.Loads.{Winning, smallest-is, Decided}
 use Rattle.fairness.proofs.Rounds.{freezes-both}
 use Rattle.fairness.proofs.Choice.{left-of, load-of, share-of, winning-least, winning-plain, no-smaller-cap}
 
@@ -42,36 +42,32 @@ module _ (path : Transfer → List ℕ) where
 
   module _ (f : Filling) (plain-left : (e : ℕ) → e < length (f .residual) → Plain (left-of path f e)) (few : (e : ℕ) → e < length (f .residual) → load-of path f e ≤ 2 ^ 53)
       (plain-caps : (i : ℕ) → seat-at f i .unfrozen ≡ true → (c : Float) → seat-at f i .transfer .«rate_cap» ≡ AtMost c → Plain c) where
-    pub chosen : (v : Verdict) → Decided path f v → Chosen f v (rate-by v)
+    pub chosen : (v : Verdict) → Winning path f (winning-edge path f) → Decided path f v → Chosen f v (rate-by v)
     unfolding rate-by names freezes
-    chosen (ByCap i c) d =
+    chosen (ByCap i c) wins d =
         let smallest = smallest-is path f i c (d .0) in
-        let e = d .1 .0 in
-        let x = d .1 .1 in
         let p : Plain c = plain-caps i (smallest .waits) c (smallest .is-cap) in
-        let q : Plain x = winning-plain path f plain-left few e x (d .1 .2) in
+        let q = winning-plain path f plain-left few wins in
         record {
           plain = p;
-          least = λ e′ known loaded. omega (arith, lt→exact p q (passed (d .1 .3)), winning-least path f plain-left few e x (d .1 .2) e′ known loaded);
+          least = λ e known loaded. omega (arith, lt→exact p q (passed (d .1)), winning-least path f plain-left few e known loaded);
           under-cap = λ j h b k. own j b (eqb-true j i (freezes-both path (ByCap i c) j (seat-at f j) h .1)) k (smallest .is-cap);
           why = λ j h. inl (rw (eqb-true j i (freezes-both path (ByCap i c) j (seat-at f j) h .1)) (smallest .is-cap));
         }
       where
         own : (j : ℕ) (b : Float) → j ≡ i → seat-at f j .transfer .«rate_cap» ≡ AtMost b → seat-at f i .transfer .«rate_cap» ≡ AtMost c → exact c ≤ exact b
         own j b same k k′ = let z : seat-at f i .transfer .«rate_cap» ≡ AtMost b = rw same at k in let w : c ≡ b = cc in rw w (omega arith)
-    chosen (ByEdge e x) d =
-        let wins = winning-is path f e x (d .0) in
-        let p : Plain x = winning-plain path f plain-left few e x (d .0) in
+    chosen (ByEdge e x) wins d =
+        let p : Plain x = rw (d .1) (winning-plain path f plain-left few wins) in
         record {
           plain = p;
-          least = winning-least path f plain-left few e x (d .0);
-          under-cap = λ j h b k. no-smaller-cap path f plain-caps x p (d .1) j (freezes-both path (ByEdge e x) j (seat-at f j) h .0) b k;
+          least = rw (d .1) (winning-least path f plain-left few);
+          under-cap = λ j h b k. no-smaller-cap path f plain-caps x p (d .2) j (freezes-both path (ByEdge e x) j (seat-at f j) h .0) b k;
           why = λ j h. inr (record {
             edge = e;
-            known = wins .known;
+            known = rw (d .0) (wins .known);
             crossed = any-crosses e (path (seat-at f j .transfer)) (freezes-both path (ByEdge e x) j (seat-at f j) h .1);
-            is-share = wins .is-share;
+            is-share = rw (d .1, d .0) (wins .is-share);
             to-all = λ l u c. rw (crosses-any e (path (seat-at f l .transfer)) c, u) refl;
           });
         }
-    chosen ByNobody d = absurd d

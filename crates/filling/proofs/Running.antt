@@ -10,15 +10,16 @@ use Rattle.rules.specs.declared.Transfer.{Transfer}
 use Rattle.rules.specs.declared.Seat.{Seat}
 use Rattle.rules.specs.declared.Verdict.{Verdict}
 use Rattle.rules.specs.Records.{own-path}
-use Rattle.rules.specs.Filling.{Filling, with-rate, smallest-cap, num-unfrozen, frozen-by, round, rounds-until}
+use Rattle.rules.specs.Filling.{Filling, with-rate, smallest-cap, load, num-unfrozen, frozen-by, round, rounds-until}
 use Rattle.rules.specs.Invariant.{SoundRoute}
 use Rattle.fairness.specs.Ready.{no-seat, seat-at, Ready}
+use Rattle.fairness.proofs.Loads.{some-load}
 use Rattle.fairness.proofs.Start.{own-path-kept}
 use Rattle.fairness.proofs.Rounds.{verdict-of, never-unfreezes, frozen-stays, round-seats, round-edges, round-seat, round-keeps, round-freezes, round-ready, one-round-on}
 use Rattle.caps.specs.declared.CapOrder.{CapOrder}
 use Rattle.rounds.specs.declared.Scratch.{Scratch}
 use Rattle.caps.specs.Order.{capped, first-cap}
-use Rattle.rounds.specs.Standing.{filling, Standing, Frozen, Coming}
+use Rattle.rounds.specs.Standing.{filling, Loaded, Standing, Frozen, Coming}
 use Rattle.caps.specs.Listed.{listed, Ordered, Passed}
 use Rattle.filling.specs.Filled.{Begun}
 use Rattle.caps.proofs.Ranked.{Since, next-is-smallest}
@@ -53,8 +54,17 @@ module _ (start : Scratch) (o : CapOrder) (begun : Begun start) (ordered : Order
     }
 
     module _ (some-left : 0 < f .unfrozen) where
-      pub left-over : 0 < num-unfrozen (filling f)
+      left-over : 0 < num-unfrozen (filling f)
       left-over = omega (arith, running .standing .counted)
+
+      -- somebody is unfrozen, so the table has load somewhere
+      pub running-loaded : Loaded (f .load)
+      running-loaded =
+          let l = some-load own-path (filling f) (running .ready) left-over in
+          record { edge = l .edge; loaded = omega (arith, standing-load (l .edge) (l .known), l .loaded) }
+        where
+          standing-load : (e : ℕ) → e < length (f .residual) → getD (f .load) e 0 ≡ load own-path (f .seats) e
+          standing-load e known = running .standing .loads .right e (omega (arith, running .standing .edges))
 
       module _ (v : Verdict) (cursor : ℕ) (is-verdict : v ≡ verdict-of own-path (filling f)) (passed : Passed (f .seats) (listed o) cursor) (r : Scratch) (frozen : Frozen f v cursor r) where
         is-round : filling r ≡ round own-path (filling f)

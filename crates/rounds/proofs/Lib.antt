@@ -1,3 +1,4 @@
 pub mod Loading
 pub mod Freezing
+pub mod Searching
 pub mod Deciding

@@ -1,15 +1,15 @@
 -- What the scratch of a filling holds between rounds, and what a round makes of it. Definitions only.
-use Prim.Native.Nat.{ℕ, suc, _<_}
+use Prim.Native.Nat.{ℕ, _<_}
 use mathlib.Core.Path.{_≡_}
 use mathlib.Core.Bool.{true}
 use mathlib.Core.List.{List}
 use lib.Ieee.{Float}
 use lib.ListN.{length, getD}
 use Rattle.rules.specs.declared.Seat.{Seat}
+use Rattle.rules.specs.declared.Share.{Share}
 use Rattle.rules.specs.declared.Verdict.{Verdict}
-use Rattle.rules.specs.Lists.{map-from, times}
 use Rattle.rules.specs.Records.{max-edges, max-slots, own-path}
-use Rattle.rules.specs.Filling.{Filling, load, smallest-cap, num-unfrozen, frozen-by}
+use Rattle.rules.specs.Filling.{Filling, shares, load, smallest-cap, num-unfrozen, frozen-by}
 use Rattle.rules.specs.Invariant.{SoundRoute}
 use Rattle.fairness.specs.Ready.{no-seat}
 use Rattle.paths.specs.Known.{Counted}
@@ -26,6 +26,15 @@ filling f = record { seats = f .seats; residual = f .residual; rounds = f .round
 pub record Loads (seats : List Seat) (table : List ℕ) : Type 0 where
   pub places : length table ≡ max-edges
   pub right : (e : ℕ) → e < max-edges → getD table e 0 ≡ load own-path seats e
+
+-- A table in which some edge has load.
+pub record Loaded (table : List ℕ) : Type 0 where
+  pub edge : ℕ
+  pub loaded : 0 < getD table edge 0
+
+-- The shares of the edges with load, the loads being read from a table and the first edge being number e.
+abbrev pub shares-by : List ℕ → ℕ → List Float → List Share
+shares-by table e residual = shares (λ d. getD table d 0) e residual
 
 -- What the freezing of a seat asks of the tables: its path runs over their places, and the loads count it while it waits.
 pub record Freezable (s : Seat) (residual : List Float) (table : List ℕ) : Type 0 where

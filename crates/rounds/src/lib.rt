@@ -2,19 +2,21 @@
 use caps::CapOrder;
 use rules::Best;
 use rules::Seat;
+use rules::Share;
 use rules::Verdict;
 ghost use mathlib.Core.Path.{_≡_};
 ghost use mathlib.Core.Bool.{cond};
 ghost use Prim.Native.Nat.{ℕ, _-_, _≤_, _<_};
+ghost use lib.Dec.{ltb};
 ghost use lib.ListN.{length, getD};
-ghost use Rattle.rules.specs.Lists.{map-from, at-each-crossing};
+ghost use Rattle.rules.specs.Lists.{at-each-crossing};
 ghost use Rattle.rules.specs.Records.{own-path};
-ghost use Rattle.rules.specs.Filling.{tightest, freezes, spend, smallest-cap};
-ghost use Rattle.rules.specs.Filling.{winning-edge as the-winning-edge, tighter as the-tighter, share as the-share};
+ghost use Rattle.rules.specs.Filling.{tighter-share, blank-share, smallest-share, freezes, spend, smallest-cap};
+ghost use Rattle.rules.specs.Filling.{winning-edge as the-winning-edge, share as the-share};
 ghost use Rattle.rules.specs.Filling.{verdict as the-verdict, rate-by as the-rate-by, names as the-names, freeze as the-freeze};
 ghost use Rattle.caps.specs.Order.{frozen-front};
 ghost use Rattle.caps.specs.Listed.{listed, Passed};
-ghost use Rattle.rounds.specs.Standing.{filling, Freezable, Standing, Coming, Frozen};
+ghost use Rattle.rounds.specs.Standing.{filling, Freezable, Standing, Coming, Frozen, Loaded, shares-by};
 
 // What a round decides, and how far it used the order of caps up.
 pub struct Decision {
@@ -36,45 +38,60 @@ pub struct Scratch {
 
 // ---- the edges
 
-// The first, unless the second is strictly smaller.
-fn tighter(x: Best, y: Best) -> Best
-    ensures { λ r. ⌜ r ≡ the-tighter x y ⌝ }
-{
-    let Best::At(i, a) = x else {
-        return y;
-    };
-    let Best::At(j, b) = y else {
-        return Best::At(i, a);
-    };
-    if b < a {
-        Best::At(j, b)
-    } else {
-        Best::At(i, a)
-    }
-}
-
-// What each crossing of edge e would get, if it has a load.
-fn share(e: usize, residual: f64, load: usize) -> Best
+// What each crossing of edge e would get.
+fn share(e: usize, residual: f64, load: usize) -> Share
     requires { ⌜ load ≤ 2048 ⌝ }
     ensures { λ r. ⌜ r ≡ the-share e residual load ⌝ }
 {
-    if load == 0 {
-        Best::Nobody
-    } else {
-        Best::At(e, residual / (load as f64))
+    Share {
+        edge: e,
+        share: residual / (load as f64),
     }
 }
 
-// The most contended edge: the smallest share, and at equality the lowest number.
-fn winning_edge(residual: &[f64], load: &[usize]) -> Best
+// The first, unless the second is strictly smaller.
+fn tighter(x: Share, y: Share) -> Share
+    ensures { λ r. ⌜ r ≡ tighter-share x y ⌝ }
+{
+    if y.share < x.share { y } else { x }
+}
+
+// The best so far against edge e, which counts only with load.
+fn against(best: Share, e: usize, residual: f64, load: usize) -> Share
+    requires { ⌜ load ≤ 2048 ⌝ }
+    ensures { λ r. ⌜ r ≡ cond (ltb 0 load) (tighter-share best (the-share e residual load)) best ⌝ }
+{
+    if 0 < load {
+        return tighter(best, share(e, residual, load));
+    }
+    best
+}
+
+// The share of the lowest edge with load; there is one.
+fn first_share(residual: &[f64], load: &[usize]) -> Share
     requires same { ⌜ length (now load) ≡ length (now residual) ⌝ }
     requires few { ⌜ ((e : ℕ) → getD (now load) e 0 ≤ 2048) ⌝ }
-    ensures { λ r. ⌜ r ≡ tightest (map-from 0 (λ e x. the-share e x (getD (now (load .entry)) e 0)) (now (residual .entry))) ⌝ }
+    requires loaded { ⌜ Loaded (now load) ⌝ }
+    ensures { λ r. ⌜ r ≡ getD (shares-by (now (load .entry)) 0 (now (residual .entry))) 0 blank-share ⌝ }
 {
-    let mut best = Best::Nobody;
+    let mut first: usize = 0;
+    while load[first] == 0 {
+        first += 1;
+    }
+    share(first, residual[first], load[first])
+}
+
+// The most contended edge: the smallest share, and at equality the lowest number.
+fn winning_edge(residual: &[f64], load: &[usize]) -> Share
+    requires same { ⌜ length (now load) ≡ length (now residual) ⌝ }
+    requires few { ⌜ ((e : ℕ) → getD (now load) e 0 ≤ 2048) ⌝ }
+    requires loaded { ⌜ Loaded (now load) ⌝ }
+    ensures { λ r. ⌜ r ≡ smallest-share (shares-by (now (load .entry)) 0 (now (residual .entry))) ⌝ }
+{
+    let mut best = first_share(residual, load);
     let mut e: usize = 0;
     while e < residual.len() {
-        best = tighter(best, share(e, residual[e], load[e]));
+        best = against(best, e, residual[e], load[e]);
         e += 1;
     }
     best
@@ -86,6 +103,7 @@ fn winning_edge(residual: &[f64], load: &[usize]) -> Best
 pub fn decide(f: Scratch, order: CapOrder) -> Decision
     requires standing { ⌜ Standing f ⌝ }
     requires coming { ⌜ Coming order f ⌝ }
+    requires loaded { ⌜ Loaded (f .load) ⌝ }
     ensures verdict { λ r. ⌜ r .verdict ≡ the-verdict (smallest-cap (filling f)) (the-winning-edge own-path (filling f)) ⌝ }
     ensures cursor { λ r. ⌜ r .cursor ≡ frozen-front (f .seats) (listed order) ⌝ }
     ensures passed { λ r. ⌜ Passed (f .seats) (listed order) (r .cursor) ⌝ }
@@ -102,23 +120,17 @@ pub fn decide(f: Scratch, order: CapOrder) -> Decision
     }
 }
 
-// The smallest cap wins only where it is strictly below the smallest share.
-fn verdict(capped: Best, best: Best) -> Verdict
+// The smallest cap, if there is one, wins only where it is strictly below the smallest share.
+fn verdict(capped: Best, best: Share) -> Verdict
     ensures { λ r. ⌜ r ≡ the-verdict capped best ⌝ }
 {
     let Best::At(i, cap) = capped else {
-        let Best::At(edge, share) = best else {
-            return Verdict::ByNobody;
-        };
-        return Verdict::ByEdge(edge, share);
+        return Verdict::ByEdge(best.edge, best.share);
     };
-    let Best::At(edge, share) = best else {
-        return Verdict::ByCap(i, cap);
-    };
-    if cap < share {
+    if cap < best.share {
         Verdict::ByCap(i, cap)
     } else {
-        Verdict::ByEdge(edge, share)
+        Verdict::ByEdge(best.edge, best.share)
     }
 }
 
@@ -129,7 +141,6 @@ fn rate_by(v: Verdict) -> f64
     match v {
         Verdict::ByCap(_, cap) => cap,
         Verdict::ByEdge(_, share) => share,
-        Verdict::ByNobody => 0.0,
     }
 }
 
@@ -140,7 +151,6 @@ fn names(v: Verdict, i: usize, path: &[usize]) -> bool
     match v {
         Verdict::ByCap(j, _) => i == j,
         Verdict::ByEdge(e, _) => paths::crosses(path, e),
-        Verdict::ByNobody => false,
     }
 }
 

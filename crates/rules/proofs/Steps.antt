@@ -38,10 +38,6 @@ module _ {A : Type 0} (xs : List A) (i : ℕ) (d : A) (h : i < length xs) where
 pub count-by : {A : Type 0} (p : A → Bool) (xs : List A) (i : ℕ) (d : A) (b : Bool) → p (getD xs i d) ≡ b → i < length xs → count p (drop i xs) ≡ cond b 1 0 + count p (drop (i + 1) xs)
 count-by p xs i d b e h = count-one xs i d h p ∙ ap (λ (z : Bool). cond z 1 0 + count p (drop (i + 1) xs)) e
 
--- a fold over numbered elements, one step on
-pub fold-from-one : {A B : Type 0} (f : B → B → B) (g : ℕ → A → B) (b : B) (xs : List A) (i : ℕ) (d : A) → i < length xs → foldl f b (map-from i g (drop i xs)) ≡ foldl f (f b (g i (getD xs i d))) (map-from (i + 1) g (drop (i + 1) xs))
-fold-from-one f g b xs i d h = ap (foldl f b) (map-from-one xs i d h g)
-
 -- within the list it does not matter what a read falls back on
 pub getD-any : {A : Type 0} (xs : List A) (i : ℕ) (d d′ : A) → i < length xs → getD xs i d ≡ getD xs i d′
 getD-any [] i d d′ h = absurd (omega arith)

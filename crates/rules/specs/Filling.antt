@@ -3,7 +3,8 @@
 use Prim.Native.Nat.{ℕ, zero, suc}
 use mathlib.Core.Bool.{Bool, true, false, _&&_, cond}
 use mathlib.Core.List.{List, [], _∷_, map, foldl}
-use lib.Dec.{eqb}
+use lib.Dec.{eqb, ltb}
+use lib.ListN.{getD}
 use lib.Ieee.{Float}
 use Rattle.doubles.specs.Doubles.{_⊖_, _⊘_, _≺_, nought, infinity, larger, whole}
 use Rattle.rules.specs.declared.Cap.{Cap}
@@ -13,8 +14,9 @@ use Rattle.rules.specs.declared.Transfer.{Transfer}
 use Rattle.rules.specs.declared.Seat.{Seat}
 use Rattle.rules.specs.declared.Best.{Best}
 use Rattle.rules.specs.declared.Best.the-variants.{At, Nobody}
+use Rattle.rules.specs.declared.Share.{Share}
 use Rattle.rules.specs.declared.Verdict.{Verdict}
-use Rattle.rules.specs.declared.Verdict.the-variants.{ByCap, ByEdge, ByNobody}
+use Rattle.rules.specs.declared.Verdict.the-variants.{ByCap, ByEdge}
 use Rattle.rules.specs.Tolerance.{B}
 use Rattle.rules.specs.Lists.{count, any, times, map-from, sum, crossings}
 
@@ -23,18 +25,6 @@ pub record Filling : Type 0 where
   pub seats : List Seat
   pub residual : List Float
   pub rounds : ℕ
-
--- ---- the smallest of some candidates
-
--- The first of two, unless the second is strictly smaller. (01, Filling)
-unfoldable pub tighter : Best → Best → Best
-tighter Nobody b = b
-tighter (At i x) Nobody = At i x
-tighter (At i x) (At j y) = cond (y ≺ x) (At j y) (At i x)
-
--- The smallest of some candidates, and at equality the earliest. (01, Filling)
-unfoldable pub tightest : List Best → Best
-tightest candidates = foldl tighter Nobody candidates
 
 -- ---- who takes part
 
@@ -56,12 +46,40 @@ unfoldable pub entered : List ℕ → Transfer → Seat
 entered [] t = record { transfer = with-rate (lone-rate (t .«rate_cap»)) t; unfrozen = false }
 entered (e ∷ path) t = record { transfer = t; unfrozen = true }
 
--- ---- what a round decides
+-- ---- the winning edge
 
--- The share of edge e: what is left of its capacity over its load, if it has one. (01, Filling)
-unfoldable pub share : ℕ → Float → ℕ → Best
-share e residual zero = Nobody
-share e residual (suc n) = At e (residual ⊘ whole (suc n))
+-- The share of edge e: what is left of its capacity over its load. (01, Filling)
+unfoldable pub share : ℕ → Float → ℕ → Share
+share e residual load = record { edge = e; share = residual ⊘ whole load }
+
+-- The shares of the edges that have load, by ascending number from edge e on; `load` tells the load of each. (01, Filling)
+unfoldable pub shares : (ℕ → ℕ) → ℕ → List Float → List Share
+shares load e [] = []
+shares load e (r ∷ residual) = let more = shares load (suc e) residual in cond (ltb 0 (load e)) (share e r (load e) ∷ more) more
+
+-- The first of two shares, unless the second is strictly smaller. (01, Filling)
+unfoldable pub tighter-share : Share → Share → Share
+tighter-share x y = cond (y .share ≺ x .share) y x
+
+-- What is read past the last share.
+unfoldable pub blank-share : Share
+blank-share = record { edge = 0; share = nought }
+
+-- The smallest of some shares, and at equality the earliest: from the first on, whichever is strictly smaller. Each round has a first, since an edge has load (`AlwaysLoaded`, Promises). (01, Filling)
+unfoldable pub smallest-share : List Share → Share
+smallest-share shares = foldl tighter-share (getD shares 0 blank-share) shares
+
+-- ---- the smallest cap
+
+-- The first of two caps, unless the second is strictly smaller. (01, Filling)
+unfoldable pub tighter : Best → Best → Best
+tighter Nobody b = b
+tighter (At i x) Nobody = At i x
+tighter (At i x) (At j y) = cond (y ≺ x) (At j y) (At i x)
+
+-- The smallest of some caps, and at equality the earliest. (01, Filling)
+unfoldable pub tightest : List Best → Best
+tightest caps = foldl tighter Nobody caps
 
 -- The cap of the transfer in slot i, if it is unfrozen and has one. (01, Filling)
 unfoldable pub own-cap : ℕ → Bool → Cap → Best
@@ -73,13 +91,12 @@ own-cap i true (AtMost c) = At i c
 unfoldable pub smallest-cap : Filling → Best
 smallest-cap f = tightest (map-from 0 (λ i s. own-cap i (s .unfrozen) (s .transfer .«rate_cap»)) (f .seats))
 
--- The smallest cap wins over the smallest share only where it is strictly below it. With neither there would be nobody to freeze: the Rust stops the filling there, and no filling
--- comes to it (`never-by-nobody` in fairness). (01, Filling)
-unfoldable pub verdict : Best → Best → Verdict
-verdict Nobody Nobody = ByNobody
-verdict Nobody (At e x) = ByEdge e x
-verdict (At i c) Nobody = ByCap i c
-verdict (At i c) (At e x) = cond (c ≺ x) (ByCap i c) (ByEdge e x)
+-- ---- what a round decides
+
+-- The smallest cap, if there is one, wins over the smallest share only where it is strictly below it. (01, Filling)
+unfoldable pub verdict : Best → Share → Verdict
+verdict Nobody best = ByEdge (best .edge) (best .share)
+verdict (At i c) best = cond (c ≺ best .share) (ByCap i c) (ByEdge (best .edge) (best .share))
 
 -- ---- what a verdict says
 
@@ -87,13 +104,11 @@ verdict (At i c) (At e x) = cond (c ≺ x) (ByCap i c) (ByEdge e x)
 unfoldable pub rate-by : Verdict → Float
 rate-by (ByCap i c) = c
 rate-by (ByEdge e x) = x
-rate-by ByNobody = nought
 
 -- Whether a verdict names the transfer in slot i on that path: the slot itself, or all that cross the edge. (01, Filling)
 unfoldable pub names : Verdict → ℕ → List ℕ → Bool
 names (ByCap j c) i p = eqb i j
 names (ByEdge e x) i p = any (eqb e) p
-names ByNobody i p = false
 
 -- What one crossing at a rate leaves of an edge, never below 0. (01, Filling)
 unfoldable pub spend : Float → Float → Float
@@ -122,8 +137,8 @@ module _ (path : Transfer → List ℕ) where
   load seats e = sum (map (λ s. cond (s .unfrozen) (crossings e (path (s .transfer))) 0) seats)
 
   -- The edge with the smallest share, the lowest number at equality. (01, Filling)
-  unfoldable pub winning-edge : Filling → Best
-  winning-edge f = tightest (map-from 0 (λ e r. share e r (load (f .seats) e)) (f .residual))
+  unfoldable pub winning-edge : Filling → Share
+  winning-edge f = smallest-share (shares (load (f .seats)) 0 (f .residual))
 
   -- Whether a verdict freezes the seat in slot i. (01, Filling)
   unfoldable pub freezes : Verdict → ℕ → Seat → Bool

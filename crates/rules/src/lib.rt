@@ -86,6 +86,7 @@ pub struct Totals {
 // The crossings of each edge by all transfers in flight, as of the last filling, and how many edges there were then.
 pub struct EdgeLoad {
     pub load: [usize; 64],
+    // Nothing is decided by it: while rates are not stale it is the number of edges, as `AlwaysMatched` (specs/Promises) says, and that statement is what it stays for.
     pub len: usize,
 }
 
@@ -203,17 +204,22 @@ pub struct Seat {
     pub unfrozen: bool,
 }
 
-// The place and the value of the smallest of some candidates: an edge with its share, or a slot with its cap.
+// The smallest of some caps: whose slot it is, and the cap. Not everybody has one.
 pub enum Best {
     At(usize, f64),
     Nobody,
+}
+
+// An edge with load, and what each crossing of it would get.
+pub struct Share {
+    pub edge: usize,
+    pub share: f64,
 }
 
 // What a round decides: one slot is frozen at its cap, or all that cross an edge at its share.
 pub enum Verdict {
     ByCap(usize, f64),
     ByEdge(usize, f64),
-    ByNobody,
 }
 
 impl Tolerance {

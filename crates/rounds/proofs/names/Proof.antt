@@ -13,9 +13,6 @@ enum-known-v-2 c = search needs
 crosses-requires : tie.Need-crosses-requires
 crosses-requires c κs = search needs
 
-enum-told : tie.Need-enum-told
-enum-told c = search needs
-
 returns : tie.Need-returns
 unfolding names
 returns c = rw (c .before .v .given .1)
@@ -24,11 +21,6 @@ returns-2 : tie.Need-returns-2
 unfolding names
 returns-2 c = rw (c .before .before .v2 .given .1, c .crosses .ensures)
 
-returns-3 : tie.Need-returns-3
-unfolding names
-returns-3 c = rw (c .enum-told .given .1)
-
 pub names-spec : {M : Type 1} → statement M
 names-spec =
-    tie.close
-    (tie.spec enum-known-v enum-known-v-2 crosses-requires enum-told returns returns-2 returns-3)
+    tie.close (tie.spec enum-known-v enum-known-v-2 crosses-requires returns returns-2)
