@@ -5,6 +5,7 @@ pub mod Loads
 pub mod Choice
 pub mod Rounds
 pub mod Start
+pub mod Throughout
 pub mod Account
 pub mod Edge
 pub mod Sums

@@ -1,16 +1,20 @@
--- What holds of the filling of every simulator with the invariant holds of every filling in any history, since a drain to a time that a call may name keeps the invariant. Assumes
--- nothing.
+-- What holds of the filling of every simulator with the invariant holds of every filling in any history, since a drain to a time that a call may name keeps the invariant; and what the
+-- last filling left matches the edges while it is up to date. Assumes nothing.
+use mathlib.Core.Path.{_≡_, ap}
+use mathlib.Core.Bool.{false}
 use mathlib.Core.List.{List}
 use lib.Dec.{T}
 use Rattle.doubles.specs.Doubles.{read-zero}
+use Rattle.rules.specs.declared.EdgeLoad.{EdgeLoad}
 use Rattle.rules.specs.declared.Flows.{Flows}
 use Rattle.rules.specs.Lists.{all}
 use Rattle.rules.specs.Records.{fresh}
-use Rattle.rules.specs.Clock.{drain-to}
+use Rattle.rules.specs.Clock.{edge-loads, drain-to}
 use Rattle.rules.specs.Histories.{Turn, typed, run}
 use Rattle.rules.specs.Invariant.{Invariant}
-use Rattle.rules.specs.Promises.{WhereverFilled, AlwaysFair, AlwaysEnds}
+use Rattle.rules.specs.Promises.{WhereverFilled, AlwaysFair, AlwaysEnds, AlwaysLoaded, AlwaysMatched}
 use Rattle.fairness.proofs.Start.{filling-ends}
+use Rattle.fairness.proofs.Throughout.{loaded-throughout}
 use Rattle.fairness.proofs.Fair.{fair-filling}
 use Rattle.keeps.proofs.Arguments.{time-clock, time-no-earlier}
 use Rattle.keeps.proofs.Draining.{drain-to-keeps}
@@ -29,3 +33,13 @@ always-fair = always _ fair-filling
 
 pub always-ends : AlwaysEnds
 always-ends = always _ filling-ends
+
+pub always-loaded : AlwaysLoaded
+always-loaded = always _ loaded-throughout
+
+matched : {f : Flows} → Invariant f → f .clock .«rates_dirty» ≡ false → f .«edge_load» .len ≡ f .«num_edges»
+unfolding edge-loads
+matched inv fresh = ap (λ (l : EdgeLoad). l .len) (inv .load-right fresh)
+
+pub always-matched : AlwaysMatched
+always-matched turns t fresh = matched (always-sound turns t) fresh

@@ -17,17 +17,22 @@ eqb-swap a b = go (eqb a b) refl
     go true e = sym (eq-eqb b a (sym (eqb-true a b e)))
     go false e = sym (ne-eqb b a (λ q. eqb-false a b e (sym q)))
 
-pub crosses-any : (e : ℕ) (path : List ℕ) → 0 < crossings e path → any (eqb e) path ≡ true
+-- a test that a crossed edge passes is passed by some edge of the path
+pub crossed-any : (q : ℕ → Bool) (e : ℕ) (path : List ℕ) → 0 < crossings e path → q e ≡ true → any q path ≡ true
 unfolding crossings count any
-crosses-any e [] h = absurd (omega arith)
-crosses-any e (x ∷ path) h = go (eqb e x) refl (crosses-any e path)
+crossed-any q e [] h t = absurd (omega arith)
+crossed-any q e (x ∷ path) h t = go (eqb e x) refl h (crossed-any q e path)
   where
-    go : (b : Bool) → eqb e x ≡ b → (0 < count (eqb e) path → any (eqb e) path ≡ true) → (eqb e x || any (eqb e) path) ≡ true
-    go true y rec = rw y refl
-    go false y rec =
-        let h′ : 0 < cond (eqb e x) 1 0 + count (eqb e) path = h in
-        let h″ : 0 < 0 + count (eqb e) path = rw y at h′ in
-        rw y (rec (omega arith))
+    either : (b c : Bool) → c ≡ true → (b || c) ≡ true
+    either true c y = refl
+    either false c y = y
+
+    go : (b : Bool) → eqb e x ≡ b → 0 < cond b 1 0 + count (eqb e) path → (0 < count (eqb e) path → q e ≡ true → any q path ≡ true) → (q x || any q path) ≡ true
+    go true y h rec = let t′ : q x ≡ true = rw (eqb-true e x y) at t in rw t′ refl
+    go false y h rec = either (q x) (any q path) (rec (omega arith) t)
+
+pub crosses-any : (e : ℕ) (path : List ℕ) → 0 < crossings e path → any (eqb e) path ≡ true
+crosses-any e path h = crossed-any (eqb e) e path h (eq-eqb e e refl)
 
 pub any-crosses : (e : ℕ) (path : List ℕ) → any (eqb e) path ≡ true → 0 < crossings e path
 unfolding crossings count any

@@ -1,8 +1,11 @@
 -- What holds at every place of a table: of a table of one value, of a table put through a function, after a store. Assumes nothing.
 use Prim.Native.Nat.{ℕ, zero, suc}
+use mathlib.Core.Path.{_≡_}
+use mathlib.Core.Bool.{Bool, true}
 use mathlib.Core.List.{List, [], _∷_, map}
+use lib.Dec.{T}
 use lib.ListN.{set, replicate}
-use Rattle.rules.specs.Lists.{Each}
+use Rattle.rules.specs.Lists.{all, Each}
 
 module _ {A : Type 0} (P : A → Type 0) (blank : A) where
   pub each-same : (n : ℕ) (x : A) → P x → P blank → Each P blank (replicate n x)
@@ -21,3 +24,9 @@ module _ {A : Type 0} (P : A → Type 0) (blank : A) where
   each-map f [] k n a j = n
   each-map f (y ∷ xs) k n a zero = k y (a zero)
   each-map f (y ∷ xs) k n a (suc j) = each-map f xs k n (λ i. a (suc i)) j
+
+-- a test that each passes is passed by all
+pub all-each : {A : Type 0} (p : A → Bool) (blank : A) (xs : List A) → Each (λ x. p x ≡ true) blank xs → T (all p xs)
+unfolding all
+all-each p blank [] a = tt
+all-each p blank (x ∷ xs) a = let here : p x ≡ true = a zero in rw here (all-each p blank xs (λ i. a (suc i)))

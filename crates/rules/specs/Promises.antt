@@ -1,18 +1,21 @@
 -- What is promised of every history of calls on a fresh simulator, refused calls among them. (01, How far each contract reaches) Statements only.
 use Prim.Native.Nat.{ℕ}
 use mathlib.Core.Path.{_≡_}
-use mathlib.Core.Bool.{false}
+use mathlib.Core.Bool.{Bool, false, not, _&&_, _||_}
 use mathlib.Core.List.{List, _++_}
-use lib.Dec.{T}
+use lib.Dec.{T, ltb}
+use lib.ListN.{length}
 use lib.Ieee.{Float, binary64, fits}
 use Rattle.doubles.specs.Doubles.{_≺_, read-zero}
 use Rattle.rules.specs.declared.Owner.{Owner}
 use Rattle.rules.specs.declared.Cap.{Cap}
+use Rattle.rules.specs.declared.Transfer.{Transfer}
+use Rattle.rules.specs.declared.Seat.{Seat}
 use Rattle.rules.specs.declared.Flows.{Flows}
 use Rattle.rules.specs.declared.Call.{Call}
-use Rattle.rules.specs.Lists.{all}
+use Rattle.rules.specs.Lists.{any, all}
 use Rattle.rules.specs.Records.{fresh, path-of}
-use Rattle.rules.specs.Filling.{num-unfrozen, recompute-rates}
+use Rattle.rules.specs.Filling.{Filling, num-unfrozen, start, load, rounds-until, recompute-rates}
 use Rattle.rules.specs.Clock.{drain-to}
 use Rattle.rules.specs.Refusals.{ascending, not-a-time, short-buffer}
 use Rattle.rules.specs.Edges.{add-edge-causes, widen-causes}
@@ -52,6 +55,22 @@ AllFrozen f = num-unfrozen (recompute-rates (path-of f) (f .edges) (f .«in_flig
 -- A filling ends when none is unfrozen, whenever rates are worked out. (01, Filling)
 abbrev pub AlwaysEnds : Type 0
 AlwaysEnds = (turns : List Turn) → T (all typed turns) → WhereverFilled AllFrozen (run fresh turns)
+
+-- Whether a seat has load on its path, on an edge that the filling knows. (01, Filling)
+abbrev pub load-on-path : (Transfer → List ℕ) → Filling → Seat → Bool
+load-on-path path g s = any (λ e. ltb e (length (g .residual)) && ltb 0 (load path (g .seats) e)) (path (s .transfer))
+
+-- After any number of rounds of a simulator's filling, everybody who is unfrozen still has load on its path. (02, P7)
+abbrev pub LoadedThroughout : Flows → Type 0
+LoadedThroughout f = (n : ℕ) → let g = rounds-until (path-of f) n (start (path-of f) (f .edges) (f .«in_flight»)) in T (all (λ s. not (s .unfrozen) || load-on-path (path-of f) g s) (g .seats))
+
+-- So it is whenever rates are worked out: while somebody is unfrozen a round has an edge with load, and its share to go by. (02, P7)
+abbrev pub AlwaysLoaded : Type 0
+AlwaysLoaded = (turns : List Turn) → T (all typed turns) → WhereverFilled LoadedThroughout (run fresh turns)
+
+-- While rates are not stale the load table is as long as the edge table, so that a quiet advance need not ask. (02, P7)
+abbrev pub AlwaysMatched : Type 0
+AlwaysMatched = (turns : List Turn) → T (all typed turns) → let f = run fresh turns in f .clock .«rates_dirty» ≡ false → f .«edge_load» .len ≡ f .«num_edges»
 
 -- ---- over every simulator with the invariant, and so over every history
 
