@@ -91,6 +91,17 @@ pub fn count_rounds(text: &str) -> Result<String, String> {
     substitute(&text, round, &format!("{round}            self.rounds += 1;\n"))
 }
 
+/// Ends the program with a message where a branch would be taken that the port has left out: a round in which no edge has load, a load table
+/// of another length than the edge table while rates are not stale.
+pub fn mark_unreachable(text: &str) -> Result<String, String> {
+    let round = "let capped = cap_order.get(cap_cursor).copied();\n";
+    let quiet = "        if !self.rates_dirty\n            && now >= self.now\n";
+    let loaded = "            assert!(best.is_some(), \"somebody is unfrozen, and no edge has load\");\n";
+    let matched = "        assert!(self.rates_dirty || self.edge_load.len() == self.edges.len(), \"loads and edges differ in number\");\n";
+    let text = substitute(text, round, &format!("{round}{loaded}"))?;
+    substitute(&text, quiet, &format!("{matched}{quiet}"))
+}
+
 /// Swaps the number type: `f64` becomes a type of the same name that notes inexact operations.
 /// Casts to f64 become a method, float literals are wrapped; not another letter changes.
 pub fn swap_numbers(text: &str) -> String {
@@ -176,6 +187,15 @@ mod tests {
         let patch = "--- a\n+++ b\n@@ -2,2 +2,3 @@\n two\n+new\n three\n";
         assert_eq!(apply_patch("one\ntwo\nthree\nfour\n", patch).unwrap(), "one\ntwo\nnew\nthree\nfour\n");
         assert!(apply_patch("one\n2\nthree\n", patch).is_err());
+    }
+
+    #[test]
+    fn marks_stand_before_what_they_watch() {
+        let text = "let capped = cap_order.get(cap_cursor).copied();\nif\n        if !self.rates_dirty\n            && now >= self.now\n";
+        let marked = mark_unreachable(text).unwrap();
+        let lines: Vec<&str> = marked.lines().map(str::trim).collect();
+        assert!(lines[1].starts_with("assert!(best.is_some()") && lines[3].starts_with("assert!(self.rates_dirty ||"));
+        assert!(mark_unreachable("another flows.rs").is_err());
     }
 
     #[test]
