@@ -61,11 +61,11 @@ shares load e (r ∷ residual) = let more = shares load (suc e) residual in cond
 unfoldable pub tighter-share : Share → Share → Share
 tighter-share x y = cond (y .share ≺ x .share) y x
 
--- What is read past the last share.
+-- What is read past the last of some shares, which no round does (`AlwaysLoaded`, Promises). (02, P7)
 unfoldable pub blank-share : Share
 blank-share = record { edge = 0; share = nought }
 
--- The smallest of some shares, and at equality the earliest: from the first on, whichever is strictly smaller. Each round has a first, since an edge has load (`AlwaysLoaded`, Promises). (01, Filling)
+-- The smallest of some shares, and at equality the earliest: from the first on, whichever is strictly smaller. (01, Filling)
 unfoldable pub smallest-share : List Share → Share
 smallest-share shares = foldl tighter-share (getD shares 0 blank-share) shares
 
