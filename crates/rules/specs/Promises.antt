@@ -56,7 +56,7 @@ AllFrozen f = num-unfrozen (recompute-rates (path-of f) (f .edges) (f .«in_flig
 abbrev pub AlwaysEnds : Type 0
 AlwaysEnds = (turns : List Turn) → T (all typed turns) → WhereverFilled AllFrozen (run fresh turns)
 
--- Whether a seat has load on its path, on an edge that the filling knows. (01, Filling)
+-- Whether a seat has load on its path, on an edge that the filling knows. (02, P7)
 abbrev pub load-on-path : (Transfer → List ℕ) → Filling → Seat → Bool
 load-on-path path g s = any (λ e. ltb e (length (g .residual)) && ltb 0 (load path (g .seats) e)) (path (s .transfer))
 
@@ -68,7 +68,7 @@ LoadedThroughout f = (n : ℕ) → let g = rounds-until (path-of f) n (start (pa
 abbrev pub AlwaysLoaded : Type 0
 AlwaysLoaded = (turns : List Turn) → T (all typed turns) → WhereverFilled LoadedThroughout (run fresh turns)
 
--- While rates are not stale the load table is as long as the edge table, so that a quiet advance need not ask. (02, P7)
+-- While rates are not stale there are as many loads as edges, so that a quiet advance need not ask. (02, P7)
 abbrev pub AlwaysMatched : Type 0
 AlwaysMatched = (turns : List Turn) → T (all typed turns) → let f = run fresh turns in f .clock .«rates_dirty» ≡ false → f .«edge_load» .len ≡ f .«num_edges»
 
