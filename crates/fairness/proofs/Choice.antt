@@ -2,6 +2,7 @@
 -- gives way only to what is strictly below keeps the least. Assumes nothing.
 use mathlib.Core.Path.{_≡_, refl}
 use mathlib.Core.Bool.{Bool, true, false}
+use mathlib.Core.Logic.{inl, inr}
 use mathlib.Core.List.{List}
 use Prim.Native.Nat.{ℕ, _+_, _^_, _≤_, _<_}
 use native.Mathlib.Omega.{arith}
@@ -19,7 +20,7 @@ use Rattle.rules.specs.declared.Best.{Best}
 use Rattle.rules.specs.declared.Best.the-variants.{At, Nobody}
 use Rattle.rules.specs.Filling.{Filling, tightest, load, share, winning-edge, own-cap, smallest-cap}
 use Rattle.fairness.specs.Ready.{no-seat, seat-at}
-use Rattle.fairness.proofs.Tightest.{PlainBest, Least, tightest-least}
+use Rattle.fairness.proofs.Tightest.{PlainOf, Least, tightest-least}
 use Rattle.fairness.proofs.Shares.{smallest-least as least-of-shares}
 use Rattle.fairness.proofs.Loads.{unfrozen-inside, Winning, smallest-is}
 
@@ -51,24 +52,28 @@ module _ (path : Transfer → List ℕ) (f : Filling) where
   -- ---- caps
 
   module _ (plain-caps : (i : ℕ) → seat-at f i .unfrozen ≡ true → (c : Float) → seat-at f i .transfer .«rate_cap» ≡ AtMost c → Plain c) where
-    plain-cap : (i : ℕ) (b : Bool) (k : Cap) → (b ≡ true → (c : Float) → k ≡ AtMost c → Plain c) → PlainBest (own-cap i b k)
+    plain-cap : (i : ℕ) (b : Bool) (k : Cap) → (b ≡ true → (c : Float) → k ≡ AtMost c → Plain c) → PlainOf i (own-cap i b k)
     unfolding own-cap
     plain-cap i false k h = tt
     plain-cap i true Uncapped h = tt
-    plain-cap i true (AtMost c) h = h refl c refl
+    plain-cap i true (AtMost c) h = (h refl c refl, refl)
 
-    -- it is there where somebody unfrozen has a cap, and is no greater
-    smallest-below : (j : ℕ) → seat-at f j .unfrozen ≡ true → (d : Float) → seat-at f j .transfer .«rate_cap» ≡ AtMost d → Least (smallest-cap f) (At j d)
+    -- it is there where somebody unfrozen has a cap, and is no greater, nor of a higher slot where they are equal
+    pub smallest-below : (j : ℕ) → seat-at f j .unfrozen ≡ true → (d : Float) → seat-at f j .transfer .«rate_cap» ≡ AtMost d → Least (smallest-cap f) (At j d)
     unfolding smallest-cap tightest own-cap
     smallest-below j u d k =
         let all = tightest-least (λ i s. own-cap i (s .unfrozen) (s .transfer .«rate_cap»)) 0 (f .seats) no-seat Nobody tt (λ i h. plain-cap (0 + i) (seat-at f i .unfrozen) (seat-at f i .transfer .«rate_cap») (plain-caps i)) in
         let z : 0 + j ≡ j = omega arith in
-        let least : Least (smallest-cap f) (own-cap j (seat-at f j .unfrozen) (seat-at f j .transfer .«rate_cap»)) = rw z at (all .2 j (unfrozen-inside (f .seats) j u)) in
+        let least : Least (smallest-cap f) (own-cap j (seat-at f j .unfrozen) (seat-at f j .transfer .«rate_cap»)) = rw z at (all .1 j (unfrozen-inside (f .seats) j u)) in
         let own : own-cap j (seat-at f j .unfrozen) (seat-at f j .transfer .«rate_cap») ≡ At j d = rw (k, u) refl in
         rw own at least
 
     pub smallest-least : (i : ℕ) (c : Float) → smallest-cap f ≡ At i c → (j : ℕ) → seat-at f j .unfrozen ≡ true → (d : Float) → seat-at f j .transfer .«rate_cap» ≡ AtMost d → exact c ≤ exact d
-    smallest-least i c q j u d k = rw q at (smallest-below j u d k)
+    smallest-least i c q j u d k = go (rw q at (smallest-below j u d k))
+      where
+        go : Least (At i c) (At j d) → exact c ≤ exact d
+        go (inl h) = omega (arith, h)
+        go (inr h) = omega (arith, h .0)
 
     -- a cap below x is not there where the smallest is not below x
     pub no-smaller-cap : (x : Float) → Plain x → ((i : ℕ) (c : Float) → smallest-cap f ≡ At i c → (c ≺ x) ≡ false)

@@ -8,8 +8,7 @@ use native.Mathlib.Omega.{arith}
 use lib.ListN.{length, getD}
 use lib.Ieee.{Float}
 use Rattle.doubles.specs.Doubles.{_⊘_, _≺_, nought, whole}
-use Rattle.rules.specs.declared.Cap.{Cap}
-use Rattle.rules.specs.declared.Cap.the-variants.{AtMost, Uncapped}
+use Rattle.rules.specs.declared.Cap.the-variants.{AtMost}
 use Rattle.rules.specs.declared.Transfer.{Transfer}
 use Rattle.rules.specs.declared.Seat.{Seat}
 use Rattle.rules.specs.declared.Best.{Best}
@@ -23,7 +22,7 @@ use Rattle.fairness.specs.Ready.{no-seat, seat-at, Ready}
 use Rattle.rules.proofs.Counting.{some-of-count}
 use Rattle.rules.proofs.Sums.{sum-at, sum-some}
 use Rattle.rules.proofs.Crossings.{crosses-at}
-use Rattle.fairness.proofs.Tightest.{tightest-among, no-candidate}
+use Rattle.fairness.proofs.Tightest.{tightest-among, no-candidate, own-cap-at}
 use Rattle.fairness.proofs.Shares.{smallest-has}
 
 pub unfrozen-inside : (seats : List Seat) (i : ℕ) → getD seats i no-seat .unfrozen ≡ true → i < length seats
@@ -88,12 +87,6 @@ module _ (path : Transfer → List ℕ) where
   winning-is f l = smallest-has (load path (f .seats)) (Winning f) (f .residual) (λ j h k. record { known = h; loaded = k; is-share = refl }) (l .edge) (l .known) (l .loaded)
 
   -- ---- the smallest cap
-
-  own-cap-at : (j : ℕ) (b : Bool) (k : Cap) (i : ℕ) (c : Float) → own-cap j b k ≡ At i c → (b ≡ true) × (j ≡ i) × (k ≡ AtMost c)
-  unfolding own-cap
-  own-cap-at j false k i c e = no-candidate e
-  own-cap-at j true Uncapped i c e = no-candidate e
-  own-cap-at j true (AtMost d) i c e = (refl, cc, cc)
 
   -- it is the cap of somebody unfrozen
   pub record Smallest (f : Filling) (i : ℕ) (c : Float) : Type 0 where
