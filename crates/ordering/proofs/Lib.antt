@@ -1,0 +1,5 @@
+pub mod Listings
+pub mod Strict
+pub mod Merging
+pub mod Stepping
+pub mod Halves
