@@ -1,6 +1,5 @@
-pub mod Every
-pub mod Putting
-pub mod Ordering
-pub mod Smallest
-pub mod Ranked
+pub mod Capped
 pub mod Passing
+pub mod Listing
+pub mod Ranked
+pub mod Decided

@@ -17,7 +17,7 @@ use Rattle.caps.specs.Listed.{listed, Sized, Passed}
 
 module _ (seats : List Seat) where
   -- all of an order are frozen
-  first-none : (order : List ℕ) → ((k : ℕ) → k < length order → getD seats (getD order k 0) no-seat .unfrozen ≡ false) → first-cap seats order ≡ Nobody
+  pub first-none : (order : List ℕ) → ((k : ℕ) → k < length order → getD seats (getD order k 0) no-seat .unfrozen ≡ false) → first-cap seats order ≡ Nobody
   unfolding first-cap
   first-none [] h = refl
   first-none (i ∷ order) h = rw (h 0 (omega arith)) (first-none order (λ k l. h (suc k) (omega arith)))

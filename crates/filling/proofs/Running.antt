@@ -10,7 +10,7 @@ use Rattle.rules.specs.declared.Transfer.{Transfer}
 use Rattle.rules.specs.declared.Seat.{Seat}
 use Rattle.rules.specs.declared.Verdict.{Verdict}
 use Rattle.rules.specs.Records.{own-path}
-use Rattle.rules.specs.Filling.{Filling, with-rate, smallest-cap, load, num-unfrozen, frozen-by, round, rounds-until}
+use Rattle.rules.specs.Filling.{Filling, with-rate, load, num-unfrozen, frozen-by, round, rounds-until}
 use Rattle.rules.specs.Invariant.{SoundRoute}
 use Rattle.fairness.specs.Ready.{no-seat, seat-at, Ready}
 use Rattle.fairness.proofs.Loads.{some-load}
@@ -18,7 +18,6 @@ use Rattle.fairness.proofs.Start.{own-path-kept}
 use Rattle.fairness.proofs.Rounds.{verdict-of, never-unfreezes, frozen-stays, round-seats, round-edges, round-seat, round-keeps, round-freezes, round-ready, one-round-on}
 use Rattle.caps.specs.declared.CapOrder.{CapOrder}
 use Rattle.rounds.specs.declared.Scratch.{Scratch}
-use Rattle.caps.specs.Order.{capped, first-cap}
 use Rattle.rounds.specs.Standing.{filling, Loaded, Standing, Frozen, Coming}
 use Rattle.caps.specs.Listed.{listed, Ordered, Passed}
 use Rattle.filling.specs.Filled.{Begun}
@@ -46,11 +45,10 @@ module _ (start : Scratch) (o : CapOrder) (begun : Begun start) (ordered : Order
 
   module _ (f : Scratch) (running : Running start o f) where
     pub running-comes : Coming o f
-    unfolding smallest-cap capped
     running-comes = record {
       table = ordered .table;
       passed = running .passed;
-      ranked = ap (first-cap (f .seats)) (ordered .order) ∙ next-is-smallest (start .seats) (f .seats) (begun .caps) (running .since);
+      ranked = next-is-smallest (start .seats) (begun .caps) (filling f) (running .since) (listed o) (ordered .same) (ordered .rising);
     }
 
     module _ (some-left : 0 < f .unfrozen) where
