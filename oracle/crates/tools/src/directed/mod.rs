@@ -28,6 +28,7 @@ pub fn scripts() -> Vec<(&'static str, Vec<String>)> {
         ("next-done", tolerance::next_done()),
         ("steps", steps::steps()),
         ("equal-caps", orders::equal_caps()),
+        ("many-caps", orders::many_caps()),
         ("clamp", orders::clamp()),
         ("refusals", refusals::refusals()),
         ("limits", limits::limits()),

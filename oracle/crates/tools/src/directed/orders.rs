@@ -39,6 +39,62 @@ pub(super) fn equal_caps() -> Vec<String> {
     panic!("too few ties found");
 }
 
+/// As many capped transfers as there are slots, with few caps, in orders that are far from the caps' own: falling, alternating, all equal, and with
+/// gaps. Each cap has an edge of its own that leaves less than the cap for the last, so the order of ties shows for each.
+pub(super) fn many_caps() -> Vec<String> {
+    let mut book = Book::new();
+    let mut random = Random::new(13);
+    let four: Vec<(f64, f64)> = (0..4).map(|power| tied(&mut random, 64, f64::from(1 << power))).collect();
+    let all = [tied(&mut random, 256, 1.0)];
+    crowd(&mut book, "256 caps of four values, falling from slot to slot", &four, |slot| 3 - slot / 64);
+    crowd(&mut book, "256 caps of four values, alternating", &four, |slot| [3, 0, 2, 1][slot % 4]);
+    book.lines.push("# every third gives way, and some of the slots go to transfers without a cap".to_string());
+    (0..256).step_by(3).for_each(|slot| drop(book.say(&format!("cancel {}", 255 - slot))));
+    (0..40).for_each(|id| drop(book.say(&format!("submit {} 0 0 1000 0 - 0 1 {}", 1000 + id, id % 4))));
+    book.all(&["next_completion_delay", "rounds", "dump"]);
+    crowd(&mut book, "256 equal caps", &all, |_| 0);
+    book.lines
+}
+
+/// A cap and the capacity of an edge that so many with this cap cross seven times each, where the roundings leave less than the cap for the last, and
+/// for a quarter of them at the least the cap itself.
+fn tied(random: &mut Random, transfers: usize, scale: f64) -> (f64, f64) {
+    for _ in 0..5000 {
+        let cap = random.mantissa() * scale;
+        let mut capacity = cap * (transfers * 7) as f64;
+        (0..random.between(0, 6)).for_each(|_| capacity = capacity.next_up());
+        let mut trial = Book::new();
+        crowd_of(&mut trial, &[(cap, capacity)], transfers, |_| 0);
+        let at_cap = trial.session.sim.transfers().iter().filter(|t| t.rate == cap).count();
+        if transfers / 4 <= at_cap && at_cap < transfers {
+            return (cap, capacity);
+        }
+    }
+    panic!("no tie found");
+}
+
+/// Slot by slot a transfer with one of the caps; ids run against the slots, so that neither order can stand for the other.
+fn crowd_of(b: &mut Book, caps: &[(f64, f64)], transfers: usize, chosen: fn(usize) -> usize) {
+    caps.iter().for_each(|(_, capacity)| drop(b.say(&format!("add_edge {}", hex(*capacity)))));
+    for slot in 0..transfers {
+        let edge = chosen(slot);
+        let path = write_path(&[edge as u32; 7]);
+        b.say(&format!("submit {} 0 0 1000 0 {} 0 {path}", 255 - slot, hex(caps[edge].0)));
+    }
+    b.say("next_completion_delay");
+}
+
+fn crowd(b: &mut Book, remark: &str, caps: &[(f64, f64)], chosen: fn(usize) -> usize) {
+    b.begin(remark);
+    crowd_of(b, caps, 256, chosen);
+    for (edge, (cap, _)) in caps.iter().enumerate() {
+        let slots: Vec<u32> = (0..256).filter(|slot| chosen(*slot) == edge).map(|slot| slot as u32).collect();
+        let (first, last) = (slots[0], slots[slots.len() - 1]);
+        assert!(b.transfer(255 - first).rate == *cap && b.transfer(255 - last).rate < *cap, "{remark}: edge {edge}");
+    }
+    b.all(&["rounds", "dump"]);
+}
+
 /// Two edges with one share: the lowest number wins, which the round number shows.
 fn equal_shares(b: &mut Book) {
     b.begin("equal shares on two edges: the lower number wins");
