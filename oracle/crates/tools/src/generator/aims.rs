@@ -15,6 +15,7 @@ impl Generator {
             Profile::Whole => &[Self::at_drain_time, Self::at_latency_left],
             Profile::Wild => &[Self::at_bytes_left, Self::at_drain_time, Self::at_latency_left, Self::at_change, Self::at_clamp],
             Profile::Ties => &[Self::at_bytes_left, Self::at_drain_time, Self::at_latency_left, Self::at_change, Self::at_equal_caps],
+            Profile::Crowd => &[Self::at_bytes_left, Self::at_drain_time, Self::at_latency_left, Self::at_change, Self::at_many_caps],
             _ => &[Self::at_bytes_left, Self::at_drain_time, Self::at_latency_left, Self::at_change],
         };
         let aim = *self.random.pick(aims);
@@ -151,6 +152,24 @@ impl Generator {
         self.aimed(Call::Dump)
     }
 
+    /// A crowd with three caps in no order, each cap using an edge up to the last bits: here the order of the ties shows for each.
+    fn at_many_caps(&mut self) -> Option<()> {
+        let caps = [self.random.mantissa(), self.random.mantissa(), self.random.mantissa()];
+        let chosen: Vec<usize> = (0..self.random.between(20, 60)).map(|_| self.random.below(3)).collect();
+        let mut edges = Vec::new();
+        for (which, cap) in caps.iter().enumerate() {
+            let mut capacity = cap * (7 * chosen.iter().filter(|c| **c == which).count()) as f64;
+            (0..self.random.between(0, 3)).for_each(|_| capacity = capacity.next_up());
+            edges.push(self.aimed_edge(capacity)?);
+        }
+        let clock = self.session.sim.now();
+        for which in chosen {
+            self.aimed_submit(1000, 0.0, Some(caps[which]), clock, vec![edges[which]; 7])?;
+        }
+        self.aimed(Call::NextCompletionDelay)?;
+        self.aimed(Call::Dump)
+    }
+
     /// Edges of a few units of the least subnormal: shares round up by half of themselves, and residuals clamp at 0.
     fn at_clamp(&mut self) -> Option<()> {
         let mut edges = Vec::new();
@@ -260,5 +279,20 @@ mod tests {
     fn latency_left_is_met() {
         assert_eq!(met(6000, |t, clock| t.latency == eps_at(clock)), ALL);
         assert_eq!(met(6000, |t, clock| t.latency == eps_at(clock).next_up()), ALL[1..]);
+    }
+
+    /// Of five or more with one cap some run at it, and the last a rounding below.
+    #[test]
+    fn many_ties_are_met() {
+        let mut session = Session::new(copies::patched, false);
+        assert!(script(3, 6000, Profile::Crowd).iter().any(|line| {
+            session.answer_line(&read_line(line));
+            let all = session.sim.transfers();
+            let tied = |cap: f64| {
+                let rates: Vec<f64> = all.iter().filter(|t| t.cap == Some(cap)).map(|t| t.rate).collect();
+                rates.len() >= 5 && rates[0] == cap && rates.iter().any(|rate| *rate < cap && cap - rate < 1e-9)
+            };
+            all.iter().any(|t| t.cap.is_some_and(tied))
+        }));
     }
 }
