@@ -9,6 +9,7 @@ use lib.Dec.{T}
 use lib.Ieee.{Float, nan, inf, fin, Format, sub, lt}
 use Rattle.doubles.specs.Doubles.{larger, smaller, plain, nonneg, is-finite, PlainIn, NonnegIn}
 use Rattle.doubles.specs.Exact.{exact-in}
+use Rattle.doubles.proofs.Tests.{by-test}
 use Rattle.doubles.proofs.Ordered.{le→exact, lt→exact, not-below}
 use Rattle.doubles.proofs.Left.{difference-plain}
 use Rattle.doubles.proofs.Signs.{finite-plain}
@@ -35,10 +36,6 @@ module _ {f : Format} {x y : Float} where
   smaller-nonneg p q = of-either (NonnegIn f) (lt y x) q p
 
 -- ---- in exact values
-by-test : (b : Bool) → (P : Bool → Type 0) → (T b → P true) → (T (not b) → P false) → P b
-by-test true P h k = h tt
-by-test false P h k = k tt
-
 module _ {f : Format} {x y : Float} (p : PlainIn f x) (q : PlainIn f y) where
   pub larger-exact : exact-in f (larger x y) ≡ max (exact-in f x) (exact-in f y)
   unfolding larger

@@ -13,5 +13,6 @@ pub mod Signs
 pub mod Monotone
 pub mod Chosen
 pub mod Zeros
+pub mod Above
 pub mod Bits
 pub mod Binary64
