@@ -2,11 +2,11 @@
 -- one of that kind is in flight. Assumes nothing.
 use Prim.Native.Nat.{ℕ, _+_, _<_, _^_}
 use native.Mathlib.Omega.{arith}
-use mathlib.Core.Path.{_≡_, refl, sym, ap, _∙_}
+use mathlib.Core.Path.{_≡_, refl, ap, _∙_}
 use mathlib.Core.Bool.{true, _&&_, cond}
 use mathlib.Core.List.{map}
 use lib.Dec.{eqb}
-use borrow.Author.Tests.{eqb-true, eq-eqb}
+use borrow.Author.Tests.{eq-eqb}
 use lib.ListN.{getD, set}
 use Rattle.rules.specs.declared.Owner.{Owner}
 use Rattle.rules.specs.declared.Transfer.{Transfer}
@@ -17,18 +17,12 @@ use Rattle.rules.specs.Cancel.{count-cancelled, owner-of, cancelled}
 use Rattle.rules.specs.Invariant.{of-kind, Invariant}
 use Rattle.slots.specs.declared.Lookup.the-variants.{Slot}
 use Rattle.slots.specs.Lookup.{lookup}
-use Rattle.slots.proofs.Found.{Found, somewhere}
+use Rattle.slots.proofs.Found.{Found, somewhere, holds-id, one-slot}
 use Rattle.keeps.proofs.Crowd.{Who, same-at, same-length}
-use Rattle.rules.proofs.Conds.{both}
 use Rattle.rules.proofs.Counting.{count-set}
 use Rattle.keeps.proofs.Tally.{on-tally-is}
 use Rattle.keeps.proofs.Draining.{drained-to-clock-keeps, drained-to-clock-reaches}
 use Rattle.rules.proofs.OneChanged.{one-changed}
-
--- who has an id is in flight under it
-holds-id : (id : ℕ) (t : Transfer) → has-id id t ≡ true → (t .taken ≡ true) × (t .id ≡ id)
-unfolding has-id
-holds-id id t e = let w = both (t .taken) (eqb (t .id) id) e in (w .0, eqb-true (t .id) id (w .1))
 
 module _ {f : Flows} (inv : Invariant f) where
   -- a slot that was found is one of the table's
@@ -50,10 +44,8 @@ module _ (id i : ℕ) {f : Flows} (inv : Invariant f) (found : Found id (f .«in
 
   freed-is : map (λ t. cond (has-id id t) free t) (d .«in_flight») ≡ set (d .«in_flight») i free
   freed-is =
-      let here = holds-id id (getD (d .«in_flight») i free) still-there in
       one-changed (has-id id) free free (d .«in_flight») i (omega (arith, same-length (drained-to-clock-reaches inv .alike), found .inside)) still-there (λ j l e.
-      let there = holds-id id (getD (d .«in_flight») j free) e in
-      drained-to-clock-keeps inv .ids-differ j i (there .0) (here .0) (there .1 ∙ sym (here .1)))
+      one-slot (drained-to-clock-keeps inv) id j i e still-there)
 
   abbrev whose : Owner
   whose = getD (f .«in_flight») i free .owner

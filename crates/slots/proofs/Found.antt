@@ -1,13 +1,18 @@
 -- What it means that a search found a slot, or none: who is there, and what is asked of the transfer with that id. Assumes nothing.
-use mathlib.Core.Path.{_≡_, refl}
+use mathlib.Core.Path.{_≡_, refl, sym, _∙_}
 use mathlib.Core.Bool.{Bool, true, false, cond}
 use mathlib.Core.List.{List, [], _∷_}
-use Prim.Native.Nat.{ℕ, suc, _+_, _<_}
+use Prim.Native.Nat.{ℕ, zero, suc, _+_, _<_}
 use native.Mathlib.Omega.{arith}
+use lib.Dec.{eqb}
 use lib.ListN.{length, getD}
+use borrow.Author.Tests.{eqb-true}
 use Rattle.rules.specs.declared.Transfer.{Transfer}
+use Rattle.rules.specs.declared.Flows.{Flows}
 use Rattle.rules.specs.Lists.{any}
 use Rattle.rules.specs.Records.{free, has-id, of-id}
+use Rattle.rules.specs.Invariant.{Invariant}
+use Rattle.rules.proofs.Conds.{both}
 use Rattle.slots.specs.declared.Lookup.{Lookup}
 use Rattle.slots.specs.declared.Lookup.the-variants.{Slot, Nowhere}
 use Rattle.slots.specs.Lookup.{lookup-from, lookup}
@@ -15,6 +20,7 @@ use Rattle.slots.specs.Lookup.{lookup-from, lookup}
 -- nobody has the id
 pub record Missing (id : ℕ) (slots : List Transfer) : Type 1 where
   pub none-has : any (has-id id) slots ≡ false
+  pub nobody : (i : ℕ) → has-id id (getD slots i free) ≡ false
   pub of-none : {A : Type 0} (none : A) (some : Transfer → A) → of-id id none some slots ≡ none
 
 -- the transfer in slot i has the id, and is the one that is asked about
@@ -26,7 +32,11 @@ pub record Found (id : ℕ) (slots : List Transfer) (i : ℕ) : Type 1 where
 
 missing-past : (id : ℕ) (t : Transfer) (slots : List Transfer) → has-id id t ≡ false → Missing id slots → Missing id (t ∷ slots)
 unfolding any of-id
-missing-past id t slots e m = record { none-has = rw e (m .none-has); of-none = λ none some. rw e (m .of-none none some) }
+missing-past id t slots e m = record { none-has = rw e (m .none-has); nobody = past; of-none = λ none some. rw e (m .of-none none some) }
+  where
+    past : (i : ℕ) → has-id id (getD (t ∷ slots) i free) ≡ false
+    past zero = e
+    past (suc i) = m .nobody i
 
 found-here : (id : ℕ) (t : Transfer) (slots : List Transfer) → has-id id t ≡ true → Found id (t ∷ slots) 0
 unfolding any of-id
@@ -46,8 +56,8 @@ says-past id n t slots Nowhere e m = missing-past id t slots e m
 says-past id n t slots (Slot i) e s = (suc (s .0), omega (arith, s .1), found-past id t slots (s .0) e (s .2))
 
 says : (id n : ℕ) (slots : List Transfer) → Says id n slots (lookup-from n id slots)
-unfolding lookup-from any of-id
-says id n [] = record { none-has = refl; of-none = λ none some. refl }
+unfolding lookup-from any has-id of-id
+says id n [] = record { none-has = refl; nobody = λ i. refl; of-none = λ none some. refl }
 says id n (t ∷ slots) = go (has-id id t) refl (says id (suc n) slots)
   where
     go : (b : Bool) → has-id id t ≡ b → Says id (suc n) slots (lookup-from (suc n) id slots) → Says id n (t ∷ slots) (cond b (Slot n) (lookup-from (suc n) id slots))
@@ -63,3 +73,16 @@ nowhere id slots e = read-says id slots Nowhere e
 
 pub somewhere : (id : ℕ) (slots : List Transfer) (i : ℕ) → lookup id slots ≡ Slot i → Found id slots i
 somewhere id slots i e = let s = read-says id slots (Slot i) e in let p : s .0 ≡ i = omega (arith, s .1) in rw p at (s .2)
+
+-- ---- one slot for an id
+
+-- who has an id is in flight under it
+pub holds-id : (id : ℕ) (t : Transfer) → has-id id t ≡ true → (t .taken ≡ true) × (t .id ≡ id)
+unfolding has-id
+holds-id id t e = let w = both (t .taken) (eqb (t .id) id) e in (w .0, eqb-true (t .id) id (w .1))
+
+pub one-slot : {f : Flows} → Invariant f → (id i j : ℕ) → has-id id (getD (f .«in_flight») i free) ≡ true → has-id id (getD (f .«in_flight») j free) ≡ true → i ≡ j
+one-slot {f} inv id i j a b =
+    let p = holds-id id (getD (f .«in_flight») i free) a in
+    let q = holds-id id (getD (f .«in_flight») j free) b in
+    inv .ids-differ i j (p .0) (q .0) (p .1 ∙ sym (q .1))
