@@ -14,7 +14,7 @@ ghost use Prim.Native.Nat.{_+_, _≤_};
 ghost use Rattle.doubles.specs.Doubles.{_⊘_, whole};
 ghost use Rattle.rules.specs.Filling.{takes-part};
 ghost use Rattle.rules.specs.Refusals.{not-finite, not-an-amount, not-a-cap};
-ghost use Rattle.rules.specs.Questions.{estimate-new-capped, estimate-new, estimate, path-share, share-or-cap, time-at-share, time-alone, estimate-remaining, remaining, or-nought};
+ghost use Rattle.rules.specs.Questions.{estimate-new-capped, estimate-new, estimate, path-share, share-or-cap, time-at-share, time-alone, estimate-remaining, remaining, or-cannot-finish};
 ghost use Rattle.rules.specs.Invariant.{Invariant};
 ghost use Rattle.paths.specs.Known.{Known};
 ghost use Rattle.crossings.specs.Loads.{loads-by};
@@ -161,30 +161,30 @@ pub fn estimate_remaining(flows: Flows, id: u32) -> Outcome
     let tolerance = after.tolerance;
     let clock = after.clock;
     let eps = transfers::done_eps(tolerance, clock.now);
-    let time = remaining(in_flight, id, eps);
+    let answer = remaining(in_flight, id, eps);
     Outcome {
-        answer: Answer::Value(time),
+        answer: answer,
         flows: after,
     }
 }
 
-// The time to done of the transfer with that id; none for a stranger.
-fn remaining(in_flight: [Transfer; 256], id: u32, eps: f64) -> f64
+// The time to done of the transfer with that id, if one has it.
+fn remaining(in_flight: [Transfer; 256], id: u32, eps: f64) -> Answer
     ensures { λ r. ⌜ r ≡ remaining id eps in_flight ⌝ }
 {
     let Lookup::Slot(i) = slots::find(in_flight, id) else {
-        return 0.0;
+        return Answer::Unknown;
     };
     let t = in_flight[i];
-    or_nought(transfers::time_to_done(t, eps))
+    or_cannot_finish(transfers::time_to_done(t, eps))
 }
 
-// A delay as a number, where one that never ends is told as 0.
-fn or_nought(d: Delay) -> f64
-    ensures { λ r. ⌜ r ≡ or-nought d ⌝ }
+// A delay as an answer; one that never ends is no time.
+fn or_cannot_finish(d: Delay) -> Answer
+    ensures { λ r. ⌜ r ≡ or-cannot-finish d ⌝ }
 {
     let Delay::After(x) = d else {
-        return 0.0;
+        return Answer::CannotFinish;
     };
-    x
+    Answer::Value(x)
 }

@@ -10,7 +10,7 @@ use borrow.Author.Tests.{ltb-false}
 use Rattle.doubles.specs.Doubles.{read-zero}
 use Rattle.rules.specs.declared.Owner.{Owner}
 use Rattle.rules.specs.declared.Answer.{Answer}
-use Rattle.rules.specs.declared.Answer.the-variants.{Done, Added, Listed, Nothing, Unknown, Value, Due, Refused}
+use Rattle.rules.specs.declared.Answer.the-variants.{Done, Added, Listed, Nothing, Unknown, CannotFinish, Value, Due, Refused}
 use Rattle.rules.specs.declared.Flows.{Flows}
 use Rattle.rules.specs.declared.Call.{Call}
 use Rattle.rules.specs.declared.Call.the-variants as Call-variants
@@ -66,6 +66,7 @@ nothing-fits places (Added n) = tt
 nothing-fits places (Listed n) = omega arith
 nothing-fits places Nothing = tt
 nothing-fits places Unknown = tt
+nothing-fits places CannotFinish = tt
 nothing-fits places (Value x) = tt
 nothing-fits places (Due d) = tt
 nothing-fits places (Refused n) = tt

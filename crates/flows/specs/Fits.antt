@@ -1,7 +1,7 @@
 -- How many numbers a call lists for each entry, and what fits a lent buffer. Definitions only.
 use Prim.Native.Nat.{ℕ, _*_, _≤_}
 use Rattle.rules.specs.declared.Answer.{Answer}
-use Rattle.rules.specs.declared.Answer.the-variants.{Done, Added, Listed, Nothing, Unknown, Value, Due, Refused}
+use Rattle.rules.specs.declared.Answer.the-variants.{Done, Added, Listed, Nothing, Unknown, CannotFinish, Value, Due, Refused}
 use Rattle.rules.specs.declared.Call.{Call}
 use Rattle.rules.specs.declared.Call.the-variants.{Advance, Submit, Cancel, AddEdge, Widen, TakeCompleted, OwnersWithCompletions, NextCompletionDelay, EstimateNew, EstimateRemaining, MeanInFlight, Rate, Edge, Contains, Rounds}
 use Rattle.rules.specs.declared.Said.{Said}
@@ -32,6 +32,7 @@ Fits width places (Added n) = Unit {0}
 Fits width places (Listed n) = n * width ≤ places
 Fits width places Nothing = Unit {0}
 Fits width places Unknown = Unit {0}
+Fits width places CannotFinish = Unit {0}
 Fits width places (Value x) = Unit {0}
 Fits width places (Due d) = Unit {0}
 Fits width places (Refused n) = Unit {0}

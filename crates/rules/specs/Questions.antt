@@ -16,7 +16,7 @@ use Rattle.rules.specs.declared.EdgeRead.{EdgeRead}
 use Rattle.rules.specs.declared.EdgeRead.the-variants as EdgeRead-variants
 use Rattle.rules.specs.declared.Transfer.{Transfer}
 use Rattle.rules.specs.declared.Answer.{Answer}
-use Rattle.rules.specs.declared.Answer.the-variants.{Value, Due, Unknown, Refused}
+use Rattle.rules.specs.declared.Answer.the-variants.{Unknown, CannotFinish, Value, Due, Refused}
 use Rattle.rules.specs.declared.Outcome.{Outcome}
 use Rattle.rules.specs.declared.Flows.{Flows}
 use Rattle.rules.specs.Lists.{any}
@@ -84,18 +84,18 @@ estimate-new-capped path bytes latency cap f =
 unfoldable pub estimate-new : List ℕ → Float → Float → Flows → Answer
 estimate-new path bytes latency f = estimate-new-capped path bytes latency Uncapped f
 
--- A time that never comes is told as 0. (01, Questions)
-unfoldable pub or-nought : Delay → Float
-or-nought (After d) = d
-or-nought Never = nought
+-- A time to done as it is told: its seconds, which may be without end, or that there is none. (02, P1)
+unfoldable pub or-cannot-finish : Delay → Answer
+or-cannot-finish (After d) = Value d
+or-cannot-finish Never = CannotFinish
 
--- The time to done of the transfer with that id, and 0 where there is none. (01, Questions)
-unfoldable pub remaining : ℕ → Float → List Transfer → Float
-remaining id eps slots = of-id id nought (λ t. or-nought (time-to-done eps t)) slots
+-- The time to done of the transfer with that id, or that there is no such transfer. (02, P1)
+unfoldable pub remaining : ℕ → Float → List Transfer → Answer
+remaining id eps slots = of-id id Unknown (λ t. or-cannot-finish (time-to-done eps t)) slots
 
 -- The time a transfer still takes, drained to the clock and with rates up to date. (01, Questions)
 unfoldable pub estimate-remaining : ℕ → Flows → Outcome
-estimate-remaining id f = let g = ensure-rates (drained-to-clock f) in answering (Value (remaining id (done-eps g) (g .«in_flight»))) g
+estimate-remaining id f = let g = ensure-rates (drained-to-clock f) in answering (remaining id (done-eps g) (g .«in_flight»)) g
 
 -- ---- edges
 

@@ -6,7 +6,7 @@ use mathlib.Core.List.{List, [], _∷_, _++_, map, foldl}
 use lib.Dec.{eqb}
 use Rattle.rules.specs.declared.Owner.{Owner}
 use Rattle.rules.specs.declared.Answer.{Answer}
-use Rattle.rules.specs.declared.Answer.the-variants.{Done, Added, Listed, Nothing, Unknown, Value, Due, Refused}
+use Rattle.rules.specs.declared.Answer.the-variants.{Done, Added, Listed, Nothing, Unknown, CannotFinish, Value, Due, Refused}
 use Rattle.rules.specs.declared.Flows.{Flows}
 use Rattle.rules.specs.declared.Call.{Call}
 use Rattle.rules.specs.declared.Call.the-variants.{Advance, Submit, Cancel, AddEdge, Widen, TakeCompleted, OwnersWithCompletions, NextCompletionDelay, EstimateNew, EstimateRemaining, MeanInFlight, Rate, Edge, Contains, Rounds}
@@ -72,6 +72,7 @@ is-yes (Added n) = false
 is-yes (Listed n) = false
 is-yes Nothing = false
 is-yes Unknown = false
+is-yes CannotFinish = false
 is-yes (Value x) = false
 is-yes (Due d) = false
 is-yes (Refused n) = false
@@ -83,6 +84,7 @@ list-length (Added n) = 0
 list-length (Listed n) = n
 list-length Nothing = 0
 list-length Unknown = 0
+list-length CannotFinish = 0
 list-length (Value x) = 0
 list-length (Due d) = 0
 list-length (Refused n) = 0

@@ -6,7 +6,7 @@ use Rattle.doubles.specs.Doubles.{bits-of}
 use Rattle.rules.specs.declared.Delay.{Delay}
 use Rattle.rules.specs.declared.Delay.the-variants.{After, Never}
 use Rattle.rules.specs.declared.Answer.{Answer}
-use Rattle.rules.specs.declared.Answer.the-variants.{Done, Added, Listed, Nothing, Unknown, Value, Due, Refused}
+use Rattle.rules.specs.declared.Answer.the-variants.{Done, Added, Listed, Nothing, Unknown, CannotFinish, Value, Due, Refused}
 use Rattle.rules.specs.declared.EdgeRead.{EdgeRead}
 use Rattle.rules.specs.declared.EdgeRead.the-variants as EdgeRead-variants
 use Rattle.rules.specs.declared.Said.{Said}
@@ -24,9 +24,10 @@ told-answer (Added n) = 1 ∷ n ∷ []
 told-answer (Listed n) = 2 ∷ n ∷ []
 told-answer Nothing = 3 ∷ []
 told-answer Unknown = 4 ∷ []
-told-answer (Value x) = 5 ∷ bits-of x ∷ []
-told-answer (Due d) = 6 ∷ told-delay d
-told-answer (Refused n) = 7 ∷ n ∷ []
+told-answer CannotFinish = 5 ∷ []
+told-answer (Value x) = 6 ∷ bits-of x ∷ []
+told-answer (Due d) = 7 ∷ told-delay d
+told-answer (Refused n) = 8 ∷ n ∷ []
 
 -- An edge, or its refusal. (01, Our forms)
 unfoldable pub told-edge : EdgeRead → List ℕ

@@ -1,7 +1,7 @@
 -- Which answers promise that nothing has changed. (01, Numbers) Definitions only.
 use mathlib.Core.Bool.{Bool, true, false}
 use Rattle.rules.specs.declared.Answer.{Answer}
-use Rattle.rules.specs.declared.Answer.the-variants.{Done, Added, Listed, Nothing, Unknown, Value, Due, Refused}
+use Rattle.rules.specs.declared.Answer.the-variants.{Done, Added, Listed, Nothing, Unknown, CannotFinish, Value, Due, Refused}
 use Rattle.rules.specs.declared.Call.{Call}
 use Rattle.rules.specs.declared.Call.the-variants.{Advance, Submit, Cancel, AddEdge, Widen, TakeCompleted, OwnersWithCompletions, NextCompletionDelay, EstimateNew, EstimateRemaining, MeanInFlight, Rate, Edge, Contains, Rounds}
 use Rattle.rules.specs.declared.EdgeRead.the-variants as EdgeRead-variants
@@ -15,6 +15,7 @@ is-no (Added n) = false
 is-no (Listed n) = false
 is-no Nothing = true
 is-no Unknown = true
+is-no CannotFinish = false
 is-no (Value x) = false
 is-no (Due d) = false
 is-no (Refused n) = true

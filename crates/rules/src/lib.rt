@@ -128,6 +128,8 @@ pub enum Answer {
     Nothing,
     // No transfer with that id is in flight.
     Unknown,
+    // The transfer has bytes left that do not flow, so no time is enough.
+    CannotFinish,
     // A number of seconds, a rate or another double.
     Value(f64),
     // The time to the next completion.

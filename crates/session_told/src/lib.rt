@@ -74,6 +74,7 @@ fn answer(answer: Answer, width: usize, lent: &[u32], page: &mut [u8; 65536], at
             unwritten(page, next, lent)
         }
         Answer::Unknown => put_text(page, at, b"unknown\n"),
+        Answer::CannotFinish => put_text(page, at, b"cannot_finish\n"),
         Answer::Value(x) => valued(page, at, b"value ", x),
         Answer::Due(delay) => due(page, at, delay),
         Answer::Refused(n) => {

@@ -2,10 +2,10 @@
 use borrow.Author.Needs.{needs}
 use mathlib.Core.Path.{sym, _∙_}
 use native.Mathlib.Omega.{arith}
-use Rattle.doubles.specs.Doubles.{nought}
+use Rattle.rules.specs.declared.Answer.the-variants.{Unknown}
 use Rattle.rules.proofs.Steps.{getD-any}
 use Rattle.rules.specs.Done.{time-to-done}
-use Rattle.rules.specs.Questions.{remaining, or-nought}
+use Rattle.rules.specs.Questions.{remaining, or-cannot-finish}
 use Rattle.rules.specs.Records.{free}
 use Rattle.slots.proofs.Found.{nowhere, somewhere}
 use Rattle.estimates.proofs.remaining.Statement.{statement}
@@ -22,7 +22,7 @@ enum-told c = search needs
 
 returns : tie.Need-returns
 unfolding remaining
-returns c = rw (nowhere (c .before .before .before .args .id) (c .before .before .before .args .t1) (sym (c .before .before .find .ensures) ∙ c .enum-told .given .1) .of-none nought (λ t. or-nought (time-to-done (c .before .before .before .args .eps) t)))
+returns c = rw (nowhere (c .before .before .before .args .id) (c .before .before .before .args .t1) (sym (c .before .before .find .ensures) ∙ c .enum-told .given .1) .of-none Unknown (λ t. or-cannot-finish (time-to-done (c .before .before .before .args .eps) t)))
 
 mul-t : tie.Need-mul-t
 mul-t c = omega (arith, somewhere (c .before .before .before .before .args .id) (c .before .before .before .before .args .t1) _ (sym (c .before .before .before .find .ensures) ∙ c .before .i .given .1) .inside)
@@ -33,15 +33,15 @@ array-copy-out-t c = omega (arith, somewhere (c .before .before .before .before 
 time-to-done-requires : tie.Need-time-to-done-requires
 time-to-done-requires c κs = search needs
 
-or-nought-requires : tie.Need-or-nought-requires
-or-nought-requires c κs = search needs
+or-cannot-finish-requires : tie.Need-or-cannot-finish-requires
+or-cannot-finish-requires c κs = search needs
 
 returns-2 : tie.Need-returns-2
 unfolding remaining
 returns-2 c =
     let found = somewhere (c .before .before .before .before .before .before .before .args .id) (c .before .before .before .before .before .before .before .args .t1) _ (sym (c .before .before .before .before .before .before .find .ensures) ∙ c .before .before .before .before .i .given .1) in
     let inside = found .inside in
-    rw (found .of-some nought (λ t. or-nought (time-to-done (c .before .before .before .before .before .before .before .args .eps) t)), c .or-nought .ensures, c .before .time-to-done .ensures, ← getD-any (c .before .before .before .before .before .before .before .args .t1) _ free)
+    rw (found .of-some Unknown (λ t. or-cannot-finish (time-to-done (c .before .before .before .before .before .before .before .args .eps) t)), c .or-cannot-finish .ensures, c .before .time-to-done .ensures, ← getD-any (c .before .before .before .before .before .before .before .args .t1) _ free)
 
 pub remaining-spec : {M : Type 1} → statement M
 remaining-spec =
@@ -54,5 +54,5 @@ remaining-spec =
     mul-t
     array-copy-out-t
     time-to-done-requires
-    or-nought-requires
+    or-cannot-finish-requires
     returns-2)

@@ -4,6 +4,7 @@
 //! that holds is the answer. Everything that is computed comes from the copy.
 
 use crate::script::{hex, kind, lines, read_line, worker, write_path, Call, Line};
+use crate::tolerances::B;
 use copies::{Party, Simulator, Submission};
 use std::io::{BufRead, Write};
 
@@ -131,7 +132,7 @@ impl Session {
                 let cap = cap.map(plus_zero);
                 value(self.sim.estimate_new(&numbers(path), plus_zero(*bytes), plus_zero(*latency), cap))
             }
-            Call::EstimateRemaining { id } => value(self.sim.estimate_remaining(*id)),
+            Call::EstimateRemaining { id } => self.estimate_remaining(*id),
             Call::MeanInFlight { edge, until } => value(self.sim.mean_in_flight(*edge as usize, plus_zero(*until))),
             Call::Rate { id } => self.sim.rate(*id).map_or("unknown".to_string(), value),
             Call::Rounds => format!("number {}", self.rounds()),
@@ -212,6 +213,18 @@ impl Session {
         self.sim.cancel(id);
         self.cancelled[kind(owner)] += 1;
         "done".to_string()
+    }
+
+    /// The Rust says 0 of a stranger, of a transfer that cannot finish and of one that is done; its state after the call tells which.
+    fn estimate_remaining(&mut self, id: u32) -> String {
+        let time = self.sim.estimate_remaining(id);
+        let other = match self.sim.transfers().into_iter().find(|t| t.id == id) {
+            None => "unknown",
+            Some(t) if t.bytes > B && t.rate == 0.0 => "cannot_finish",
+            Some(_) => return value(time),
+        };
+        assert!(time == 0.0, "the Rust has a time where {other} is said");
+        other.to_string()
     }
 
     fn take_completed(&mut self, owner: Party, places: usize) -> String {

@@ -155,7 +155,7 @@ fn unknowns(b: &mut Book) {
     assert!(!b.session.sim.stale());
     b.all(&["dump", "next_completion_delay", "advance 5 768", "dump"]);
     let behind = b.transfer(1).last;
-    b.expect("estimate_remaining 77", &value(0.0));
+    b.expect("estimate_remaining 77", "unknown");
     assert!(b.transfer(1).last > behind, "the question drains");
     b.say("dump");
 }
