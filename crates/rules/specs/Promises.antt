@@ -1,27 +1,33 @@
 -- What is promised of every history of calls on a fresh simulator, refused calls among them. (01, How far each contract reaches) Statements only.
 use Prim.Native.Nat.{ℕ}
 use mathlib.Core.Path.{_≡_}
-use mathlib.Core.Bool.{Bool, false, not, _&&_, _||_}
+use mathlib.Core.Logic.{_⊎_, _↔_}
+use mathlib.Core.Bool.{Bool, true, false, not, _&&_, _||_}
 use mathlib.Core.List.{List, _++_}
 use lib.Dec.{T, ltb}
-use lib.ListN.{length}
+use lib.ListN.{length, getD}
 use lib.Ieee.{Float, binary64, fits}
-use Rattle.doubles.specs.Doubles.{_≺_, read-zero}
+use Rattle.doubles.specs.Doubles.{_≺_, nought, read-zero}
 use Rattle.rules.specs.declared.Owner.{Owner}
 use Rattle.rules.specs.declared.Cap.{Cap}
+use Rattle.rules.specs.declared.Delay.the-variants.{Never}
 use Rattle.rules.specs.declared.Transfer.{Transfer}
+use Rattle.rules.specs.declared.Answer.{Answer}
+use Rattle.rules.specs.declared.Answer.the-variants.{Unknown, CannotFinish, Value}
 use Rattle.rules.specs.declared.Seat.{Seat}
 use Rattle.rules.specs.declared.Flows.{Flows}
 use Rattle.rules.specs.declared.Call.{Call}
 use Rattle.rules.specs.Lists.{any, all}
-use Rattle.rules.specs.Records.{fresh, path-of}
+use Rattle.rules.specs.Tolerance.{B}
+use Rattle.rules.specs.Records.{free, fresh, path-of, has-id, contains}
+use Rattle.rules.specs.Done.{done-eps, is-done, time-to-done}
 use Rattle.rules.specs.Filling.{Filling, num-unfrozen, start, load, rounds-until, recompute-rates}
 use Rattle.rules.specs.Clock.{drain-to}
 use Rattle.rules.specs.Refusals.{ascending, not-a-time, short-buffer}
 use Rattle.rules.specs.Edges.{add-edge-causes, widen-causes}
 use Rattle.rules.specs.Submission.{submit-causes}
 use Rattle.rules.specs.Advance.{advance-causes}
-use Rattle.rules.specs.Questions.{estimate-causes, edge-causes, mean-causes}
+use Rattle.rules.specs.Questions.{estimate-causes, estimate-remaining, edge-causes, mean-causes}
 use Rattle.rules.specs.Histories.{call, zeros-read, Turn, typed, after, run}
 use Rattle.rules.specs.Invariant.{Invariant}
 use Rattle.rules.specs.Fair.{FairFilling}
@@ -81,6 +87,28 @@ SoundFair = (f : Flows) → Invariant f → FairFilling f
 -- Each call with its zeros read is the same call. (01, Numbers)
 abbrev pub ZerosAreOne : Type 0
 ZerosAreOne = (c : Call) (path : List ℕ) (f : Flows) (buffer : List ℕ) → Invariant f → call (zeros-read c) path f buffer ≡ call c path f buffer
+
+-- A transfer with that id is in flight, and P holds of it.
+pub record InFlight (id : ℕ) (f : Flows) (P : Transfer → Type 0) : Type 0 where
+  pub slot : ℕ
+  pub has : has-id id (getD (f .«in_flight») slot free) ≡ true
+  pub holds : P (getD (f .«in_flight») slot free)
+
+-- What an answer on the time left tells of the simulator that gave it. (02, P1)
+pub record TellsTimeLeft (id : ℕ) (f : Flows) (answer : Answer) : Type 0 where
+  -- unknown: nobody has that id
+  pub unknown : (answer ≡ Unknown) ↔ (contains id f ≡ false)
+  -- 0 seconds: the transfer is done; any other time is more than eps, and so above 0
+  pub done : (answer ≡ Value nought) ↔ InFlight id f (λ t. T (is-done (done-eps f) t))
+  pub others-above : (x : Float) → answer ≡ Value x → (x ≡ nought) ⊎ T (done-eps f ≺ x)
+  pub eps-above : T (nought ≺ done-eps f)
+  -- cannot finish: the time to done is never, that is, bytes are left and the rate is 0
+  pub never : (answer ≡ CannotFinish) ↔ InFlight id f (λ t. time-to-done (done-eps f) t ≡ Never)
+  pub stalled : (answer ≡ CannotFinish) ↔ InFlight id f (λ t. T (B ≺ t .«bytes_remaining») × (t .rate ≡ nought))
+
+-- The three answers on the time left mean what they say. (02, P1)
+abbrev pub TimeLeftTold : Type 0
+TimeLeftTold = (id : ℕ) (f : Flows) → Invariant f → let o = estimate-remaining id f in TellsTimeLeft id (o .flows) (o .answer)
 
 -- ---- over every simulator at all
 
