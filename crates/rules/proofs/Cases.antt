@@ -1,7 +1,7 @@
 -- The cases hold: the definitions, computed on the fresh simulator, give what each table says. Assumes nothing.
 use mathlib.Core.Path.{_≡_, refl}
 use mathlib.Core.Bool.{true}
-use Rattle.rules.specs.Cases.{CasesHold, holds, vault-door, collection, edge-limit, both-sides, crossing-by-crossing, lowest-first}
+use Rattle.rules.specs.Cases.{CasesHold, holds, vault-door, collection, edge-limit, both-sides, crossing-by-crossing, lowest-first, stalled-read, AtNoRate}
 use Rattle.rules.proofs.Everything.{everything}
 
 -- the twelve that are marked
@@ -32,3 +32,11 @@ crossing-by-crossing-holds = refl
 pub lowest-first-holds : holds lowest-first ≡ true
 unfolding everything
 lowest-first-holds = refl
+
+pub stalled-read-holds : holds stalled-read ≡ true
+unfolding everything
+stalled-read-holds = refl
+
+pub at-no-rate : AtNoRate
+unfolding everything
+at-no-rate = (refl, refl)

@@ -1,4 +1,4 @@
--- The cases of document 01 as tables of calls and what each must give. (01, Cases) Definitions only; proofs/Cases.antt shows that they hold.
+-- The cases of document 01, and some of the requests, as tables of calls and what each must give. (01, Cases) Definitions only; proofs/Cases.antt shows that they hold.
 use Prim.Native.Nat.{ℕ, zero, suc, _+_, _-_, _^_, _<_}
 use mathlib.Core.Path.{_≡_}
 use mathlib.Core.Bool.{Bool, true, false, _&&_}
@@ -6,7 +6,7 @@ use mathlib.Core.List.{List, [], _∷_, _++_}
 use lib.Dec.{eqb}
 use lib.ListN.{replicate}
 use lib.Ieee.{Float}
-use Rattle.doubles.specs.Doubles.{nought, whole, infinity, nearest, bits-of}
+use Rattle.doubles.specs.Doubles.{nought, whole, infinity, nearest, of-bits, bits-of}
 use Rattle.rules.specs.declared.Owner.{Owner}
 use Rattle.rules.specs.declared.Owner.the-variants.{Worker, Handoff, Write}
 use Rattle.rules.specs.declared.Cap.{Cap}
@@ -14,20 +14,22 @@ use Rattle.rules.specs.declared.Cap.the-variants.{AtMost, Uncapped}
 use Rattle.rules.specs.declared.Delay.{Delay}
 use Rattle.rules.specs.declared.Delay.the-variants.{After, Never}
 use Rattle.rules.specs.declared.Answer.{Answer}
-use Rattle.rules.specs.declared.Answer.the-variants.{Done, Added, Listed, Value, Due, Refused}
+use Rattle.rules.specs.declared.Answer.the-variants.{Done, Added, Listed, Unknown, CannotFinish, Value, Due, Refused}
 use Rattle.rules.specs.declared.EdgeRead.the-variants.{Found}
+use Rattle.rules.specs.declared.Transfer.{Transfer}
 use Rattle.rules.specs.declared.Flows.{Flows}
 use Rattle.rules.specs.declared.Call.{Call}
-use Rattle.rules.specs.declared.Call.the-variants.{Advance, Submit, Cancel, AddEdge, Widen, TakeCompleted, NextCompletionDelay, EstimateNew, Rate, Edge, Rounds}
+use Rattle.rules.specs.declared.Call.the-variants.{Advance, Submit, Cancel, AddEdge, Widen, TakeCompleted, NextCompletionDelay, EstimateNew, EstimateRemaining, Rate, Edge, Rounds}
 use Rattle.rules.specs.declared.Said.{Said}
 use Rattle.rules.specs.declared.Said.the-variants as Said-variants
 use Rattle.rules.specs.Lists.{all}
 use Rattle.rules.specs.Tolerance.{default-tolerance}
 use Rattle.rules.specs.Tolerance as Tolerance
-use Rattle.rules.specs.Records.{fresh, on-tally}
+use Rattle.rules.specs.Records.{route, fresh, on-tally}
+use Rattle.rules.specs.Questions.{remaining}
 use Rattle.rules.specs.Invariant.{Invariant}
 use Rattle.rules.specs.Histories.{Turn, after}
-use Rattle.rules.specs.Told.{told}
+use Rattle.rules.specs.Told.{told-answer, told}
 
 -- ---- tables
 
@@ -292,6 +294,34 @@ lowest-first =
     ∷ estimating (replicate 9 7) (whole 1) nought (AtMost infinity) (Refused 1)
     ∷ estimating (replicate 9 7) (whole 1) nought Uncapped (Refused 3)
     ∷ []
+
+-- ---- the time left
+
+-- A read from an unplugged drive stalls until the drive is plugged in, one at the least rate takes a time without end, and a stranger is neither. (02, P1)
+abbrev pub stalled-read : List Step
+stalled-read =
+    new-edge 0 0
+    ∷ sent 1 (0 ∷ []) 100 0 Uncapped
+    ∷ EstimateRemaining 1 answers CannotFinish
+    ∷ EstimateRemaining 2 answers Unknown
+    ∷ Widen 0 (whole 10) answers Done
+    ∷ EstimateRemaining 1 answers Value (whole 10)
+    ∷ Cancel 1 answers Done
+    ∷ EstimateRemaining 1 answers Unknown
+    ∷ AddEdge (of-bits 1) answers Added 1
+    ∷ sent 3 (1 ∷ []) (2 ^ 53) 0 Uncapped
+    ∷ EstimateRemaining 3 answers Value infinity
+    ∷ []
+
+-- A transfer of id 1 in flight with those bytes left and no rate.
+abbrev without-rate : Float → Transfer
+without-rate bytes = record { taken = true; id = 1; owner = Handoff; path = route []; «latency_remaining» = nought; «bytes_remaining» = bytes; «rate_cap» = Uncapped; rate = nought; «last_update» = nought }
+
+-- At no rate B bytes are done, and the next double above is stalled. No call leaves the first: bytes fall to B at some rate, and that rate is kept from then on. (02, P1)
+abbrev pub AtNoRate : Type 0
+AtNoRate =
+    (told-answer (remaining 1 Tolerance.F (without-rate Tolerance.B ∷ [])) ≡ told-answer (Value nought))
+    × (told-answer (remaining 1 Tolerance.F (without-rate (of-bits (suc (bits-of Tolerance.B))) ∷ [])) ≡ told-answer CannotFinish)
 
 -- ---- the last number of a kind
 
