@@ -6,6 +6,7 @@ mod limits;
 mod orders;
 mod refusals;
 mod steps;
+mod time_left;
 mod tolerance;
 
 use crate::script::{hex, read_line, write_double, write_path};
@@ -26,6 +27,7 @@ pub fn scripts() -> Vec<(&'static str, Vec<String>)> {
         ("drain-time", tolerance::drain_time()),
         ("latency-left", tolerance::latency_left()),
         ("next-done", tolerance::next_done()),
+        ("time-left", time_left::time_left()),
         ("steps", steps::steps()),
         ("equal-caps", orders::equal_caps()),
         ("many-caps", orders::many_caps()),

@@ -27,12 +27,12 @@ pub(super) fn bytes_left() -> Vec<String> {
     book.lines
 }
 
-fn end_of_drain() -> f64 {
+pub(super) fn end_of_drain() -> f64 {
     1.0 - 2f64.powi(-20)
 }
 
 /// One byte at rate 1 until 2^-19 is left, then 2^-20 seconds at the rate that leaves the target. Every step is exact.
-fn drain_to_bytes(b: &mut Book, target: f64, remark: &str) {
+pub(super) fn drain_to_bytes(b: &mut Book, target: f64, remark: &str) {
     let left = 2f64.powi(-19);
     let rate = (left - target) * 2f64.powi(20);
     b.begin(remark);
