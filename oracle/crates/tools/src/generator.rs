@@ -205,9 +205,9 @@ impl Generator {
         }
         // So many steps of a hundred are some lines aimed at one place.
         let aimed = match self.profile {
-            Profile::Whole => 1,
-            Profile::Wrong => 8,
-            _ => 4,
+            Profile::Whole => 2,
+            Profile::Wrong => 10,
+            _ => 5,
         };
         if self.random.chance(aimed) {
             return self.aim();

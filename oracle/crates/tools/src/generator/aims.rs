@@ -1,22 +1,24 @@
 //! A few lines each, aimed at places that random numbers do not meet: bytes left, time left and latency left at their
-//! tolerances, the calls that drain before they change something, ties and clamps.
+//! tolerances, transfers that stall, the calls that drain before they change something, ties and clamps.
 
 use super::*;
 use crate::tolerances::{eps_at, neighbours, whole_over_double, B};
 
 /// What is left before the last step to B: from here on B and its neighbours are met by exact steps.
 const LITTLE: f64 = 1.0 / (1 << 19) as f64;
+/// A rate at which anything takes longer than a double can tell.
+const LEAST: f64 = f64::from_bits(1);
 
 impl Generator {
     /// Some lines at one place, or a single one where a call would leave the domain of `whole` or a table is full.
     pub(super) fn aim(&mut self) {
         let aims: &[fn(&mut Generator) -> Option<()>] = match self.profile {
             // Of a drain before a change and of a number next to a tolerance, nothing lies in the exact domain.
-            Profile::Whole => &[Self::at_drain_time, Self::at_latency_left],
-            Profile::Wild => &[Self::at_bytes_left, Self::at_drain_time, Self::at_latency_left, Self::at_change, Self::at_clamp],
-            Profile::Ties => &[Self::at_bytes_left, Self::at_drain_time, Self::at_latency_left, Self::at_change, Self::at_equal_caps],
-            Profile::Crowd => &[Self::at_bytes_left, Self::at_drain_time, Self::at_latency_left, Self::at_change, Self::at_many_caps],
-            _ => &[Self::at_bytes_left, Self::at_drain_time, Self::at_latency_left, Self::at_change],
+            Profile::Whole => &[Self::at_stall, Self::at_drain_time, Self::at_latency_left],
+            Profile::Wild => &[Self::at_stall, Self::at_bytes_left, Self::at_drain_time, Self::at_latency_left, Self::at_change, Self::at_clamp],
+            Profile::Ties => &[Self::at_stall, Self::at_bytes_left, Self::at_drain_time, Self::at_latency_left, Self::at_change, Self::at_equal_caps],
+            Profile::Crowd => &[Self::at_stall, Self::at_bytes_left, Self::at_drain_time, Self::at_latency_left, Self::at_change, Self::at_many_caps],
+            _ => &[Self::at_stall, Self::at_bytes_left, Self::at_drain_time, Self::at_latency_left, Self::at_change],
         };
         let aim = *self.random.pick(aims);
         if aim(self).is_none() {
@@ -61,6 +63,25 @@ impl Generator {
         self.maybe(Call::EstimateRemaining { id }, 30)?;
         self.aimed(Call::Advance { time: end, places: AMPLE })?;
         self.maybe(Call::Contains { id }, 30)
+    }
+
+    /// A transfer that stalls or nearly so, and how long it takes: over a path or not, at no rate or the least, with no bytes or all; then plugged in, unplugged or gone.
+    fn at_stall(&mut self) -> Option<()> {
+        let clock = self.session.sim.now();
+        let (capacity, cap) = *self.random.pick(&[(0.0, None), (8.0, None), (8.0, Some(0.0)), (LEAST, None)]);
+        let bytes = *self.random.pick(&[0, 8, 8, 1 << 53]);
+        let latency = *self.random.pick(&[0.0, 0.0, 2.0]);
+        let edge = self.aimed_edge(capacity)?;
+        let path = if self.random.chance(25) { vec![] } else { vec![edge] };
+        let id = self.aimed_submit(bytes, latency, cap, clock, path)?;
+        self.aimed(Call::EstimateRemaining { id })?;
+        let change = match self.random.below(3) {
+            0 => Call::Widen { edge, amount: 8.0 },
+            1 => Call::Widen { edge, amount: -capacity },
+            _ => Call::Cancel { id },
+        };
+        self.aimed(change)?;
+        self.aimed(Call::EstimateRemaining { id })
     }
 
     /// Bytes over rate are eps or a neighbour of it.
@@ -279,6 +300,26 @@ mod tests {
     fn latency_left_is_met() {
         assert_eq!(met(6000, |t, clock| t.latency == eps_at(clock)), ALL);
         assert_eq!(met(6000, |t, clock| t.latency == eps_at(clock).next_up()), ALL[1..]);
+    }
+
+    /// The profiles whose scripts of so many lines get that answer on a transfer's time.
+    fn told(lines: usize, wanted: &str) -> Vec<&'static str> {
+        let tells = |profile: Profile| {
+            let mut session = Session::new(copies::patched, false);
+            script(3, lines, profile).iter().any(|line| {
+                let answer = session.answer_line(&read_line(line));
+                line.starts_with("estimate_remaining") && answer.as_deref() == Some(wanted)
+            })
+        };
+        PROFILES.iter().filter(|(_, profile)| tells(*profile)).map(|(name, _)| *name).collect()
+    }
+
+    #[test]
+    fn every_answer_on_the_time_left_is_met() {
+        for wanted in ["unknown", "cannot_finish", "value 0000000000000000"] {
+            assert_eq!(told(6000, wanted), ALL, "{wanted}");
+        }
+        assert_eq!(told(6000, "value 7ff0000000000000"), ALL[1..]);
     }
 
     /// Of five or more with one cap some run at it, and the last a rounding below.
