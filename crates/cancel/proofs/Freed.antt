@@ -9,7 +9,6 @@ use lib.Dec.{eqb}
 use borrow.Author.Tests.{eq-eqb}
 use lib.ListN.{getD, set}
 use Rattle.rules.specs.declared.Owner.{Owner}
-use Rattle.rules.specs.declared.Transfer.{Transfer}
 use Rattle.rules.specs.declared.Flows.{Flows}
 use Rattle.rules.specs.Records.{free, has-id, owner-kind, tally-of, with-in-flight, with-totals, made-stale, on-tally}
 use Rattle.rules.specs.Clock.{drained-to-clock}

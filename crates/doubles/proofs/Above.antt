@@ -1,7 +1,7 @@
 -- The order where one of two floats may be infinite: what is not at most a plain float is above it, what is not above zero is zero, and a sum is at most what both its
 -- parts are at most. Assumes nothing.
-use mathlib.Core.Path.{_≡_, refl, subst}
-use Prim.Native.Nat.{ℕ, _+_, _*_, _≤_}
+use mathlib.Core.Path.{_≡_, subst}
+use Prim.Native.Nat.{_+_, _≤_}
 use native.Mathlib.Nat.{zero-lt-suc}
 use native.Mathlib.Omega.{arith}
 use mathlib.Core.Logic.{inl, inr}
@@ -12,7 +12,7 @@ use Rattle.doubles.specs.Doubles.{nought, plain, nonneg, is-finite, Plai
 use Rattle.doubles.specs.Exact.{exact-in}
 use Rattle.doubles.proofs.Tests.{le-or-above}
 use Rattle.doubles.proofs.Ordered.{exact→le, exact→lt}
-use Rattle.doubles.proofs.Rounded.{rounded, rounded-mono}
+use Rattle.doubles.proofs.Rounded.{rounded-mono}
 use Rattle.doubles.proofs.Same.{rounded-is-own, nothing-is-zero}
 use Rattle.doubles.proofs.Signs.{plain-nonneg, finite-plain, under-plain, sum-nonneg}
 use Rattle.doubles.proofs.Monotone.{plain-le-trans, sum-rounded}
@@ -63,15 +63,15 @@ addend-finite f (fin s m e) (inf t) p q h = h
 addend-finite f (fin s m e) (fin t n d) p q h = tt
 
 module _ {f : Format} {x y z : Float} (p : PlainIn f x) (q : NonnegIn f y) (r : PlainIn f z) (h : T (le (add f x y) z)) where
-  whole-plain : PlainIn f (add f x y)
-  whole-plain = under-plain (sum-nonneg (plain-nonneg p) q) r h
+  sum-plain : PlainIn f (add f x y)
+  sum-plain = under-plain (sum-nonneg (plain-nonneg p) q) r h
 
   addend : PlainIn f y
-  addend = finite-plain q (addend-finite f x y (p .is-plain) (q .is-nonneg) (whole-plain .is-plain))
+  addend = finite-plain q (addend-finite f x y (p .is-plain) (q .is-nonneg) (sum-plain .is-plain))
 
   part : {w : Float} (k : PlainIn f w) → exact-in f w ≤ exact-in f x + exact-in f y → T (le w z)
   part {w} k l =
-      plain-le-trans k whole-plain r
+      plain-le-trans k sum-plain r
       (subst (λ (v : Float). T (le v (add f x y))) (rounded-is-own k)
       (rw (sum-rounded p addend) (rounded-mono f (exact-in f w) 1 (exact-in f x + exact-in f y) 1 (zero-lt-suc 0) (zero-lt-suc 0) (omega arith))))
       h

@@ -4,26 +4,22 @@ use native.Mathlib.Omega.{arith}
 use mathlib.Core.Path.{_≡_, refl, sym, ap, _∙_, subst}
 use mathlib.Core.Logic.{_⊎_, _↔_, inl, inr, Iff·trans}
 use mathlib.Core.Bool.{Bool, true, false, true≢false}
-use lib.Dec.{T, T-not, eqb}
+use lib.Dec.{T, T-not}
 use lib.ListN.{getD}
 use lib.Ieee.{Float}
-use borrow.Author.Tests.{eqb-true}
 use Rattle.doubles.specs.Doubles.{_≺_, nought, Plain}
-use Rattle.doubles.proofs.Tests.{passed}
 use Rattle.rules.specs.declared.Delay.{Delay}
 use Rattle.rules.specs.declared.Delay.the-variants.{After, Never}
 use Rattle.rules.specs.declared.Transfer.{Transfer}
 use Rattle.rules.specs.declared.Answer.{Answer}
 use Rattle.rules.specs.declared.Answer.the-variants.{Done, Added, Listed, Nothing, Unknown, CannotFinish, Value, Due, Refused}
 use Rattle.rules.specs.declared.Flows.{Flows}
-use Rattle.rules.specs.Tolerance.{B}
-use Rattle.rules.specs.Records.{free, has-id, contains}
+use Rattle.rules.specs.Records.{free, contains}
 use Rattle.rules.specs.Done.{done-eps, is-done, time-to-done}
 use Rattle.rules.specs.Questions.{or-cannot-finish, remaining, estimate-remaining}
 use Rattle.rules.specs.Told.{told-answer}
 use Rattle.rules.specs.Invariant.{Invariant}
 use Rattle.rules.specs.Promises.{InFlight, TellsTimeLeft, TimeLeftTold}
-use Rattle.rules.proofs.Conds.{both}
 use Rattle.slots.specs.declared.Lookup.{Lookup}
 use Rattle.slots.specs.declared.Lookup.the-variants.{Slot, Nowhere}
 use Rattle.slots.specs.Lookup.{lookup}

@@ -2,11 +2,11 @@
 -- Assumes nothing.
 use Prim.Native.Nat.{_^_, _<_}
 use native.Mathlib.Omega.{arith}
-use mathlib.Core.Path.{_≡_, refl, subst, sym}
+use mathlib.Core.Path.{_≡_}
 use mathlib.Core.Bool.{Bool, true, false, not, _&&_, _||_, cond}
 use lib.Dec.{T}
 use lib.Ieee.{Float, round, ofInt, mul, lt, fits, ofBits, le}
-use Rattle.doubles.specs.Doubles.{_⊕_, _⊗_, _⊘_, _≺_, _≼_, nought, whole, nearest, larger, plain, Plain}
+use Rattle.doubles.specs.Doubles.{_⊕_, _⊗_, _⊘_, _≺_, _≼_, nought, whole, nearest, plain, Plain}
 use Rattle.doubles.specs.Exact.{exact}
 use Rattle.doubles.proofs.Tests.{by-test}
 use Rattle.doubles.proofs.Ordered.{le→exact, lt→exact, exact→lt}
@@ -19,7 +19,6 @@ use Rattle.doubles.proofs.Above.{not-at-most, not-above-zero, sum-at-most}
 use Rattle.rules.specs.declared.Delay.{Delay}
 use Rattle.rules.specs.declared.Delay.the-variants.{After, Never}
 use Rattle.rules.specs.declared.Transfer.{Transfer}
-use Rattle.rules.specs.declared.Tolerance.{Tolerance}
 use Rattle.rules.specs.declared.Flows.{Flows}
 use Rattle.rules.specs.Tolerance.{B, F, eps}
 use Rattle.rules.specs.Done.{done-eps, is-done, time-to-done}
