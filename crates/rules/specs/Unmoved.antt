@@ -28,7 +28,7 @@ says-no (Said-variants.Edge (EdgeRead-variants.Refused n)) = true
 says-no (Said-variants.Truth b) = false
 says-no (Said-variants.Number n) = false
 
--- Whether a call with that answer is promised to have left the simulator as it was. Asking for the rate of an unknown id still brings rates up to date. (01, Numbers and Questions)
+-- Whether a call with that answer is promised to have left the simulator as it was. Asking for the rate or the time left of an unknown id still brings rates up to date. (01, Numbers and Questions)
 unfoldable pub unmoved : Call → Said → Bool
 unmoved (Advance T) s = says-no s
 unmoved (Submit submission) s = says-no s
