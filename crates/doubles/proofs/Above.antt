@@ -1,13 +1,14 @@
 -- The order where one of two floats may be infinite: what is not at most a plain float is above it, what is not above zero is zero, and a sum is at most what both its
--- parts are at most. Assumes nothing.
-use mathlib.Core.Path.{_≡_, subst}
-use Prim.Native.Nat.{_+_, _≤_}
-use native.Mathlib.Nat.{zero-lt-suc}
+-- parts are at most; and no float at all is below itself. Assumes nothing.
+use mathlib.Core.Path.{_≡_, refl, subst}
+use Prim.Native.Nat.{_+_, _*_, _≤_}
+use native.Mathlib.Nat.{zero-lt-suc, le-refl}
 use native.Mathlib.Omega.{arith}
 use mathlib.Core.Logic.{inl, inr}
 use mathlib.Core.Bool.{true, false, not}
 use lib.Dec.{T, T-not}
-use lib.Ieee.{Float, nan, inf, fin, Format, add, lt, le, ofBits}
+use borrow.Author.Tests.{le-ltb}
+use lib.Ieee.{Float, nan, inf, fin, Format, up, down, add, lt, le, ofBits}
 use Rattle.doubles.specs.Doubles.{nought, plain, nonneg, is-finite, PlainIn, NonnegIn}
 use Rattle.doubles.specs.Exact.{exact-in}
 use Rattle.doubles.proofs.Tests.{le-or-above}
@@ -78,3 +79,12 @@ module _ {f : Format} {x y z : Float} (p : PlainIn f x) (q : NonnegIn f y) (r : 
 
   pub sum-at-most : T (le x z) × T (le y z)
   sum-at-most = (part p (omega arith), part addend (omega arith))
+
+-- ---- itself
+pub not-below-itself : (x : Float) → lt x x ≡ false
+unfolding lt
+not-below-itself nan = refl
+not-below-itself (inf true) = refl
+not-below-itself (inf false) = refl
+not-below-itself (fin true m e) = le-ltb (m * up e * down e) (m * up e * down e) (le-refl _)
+not-below-itself (fin false m e) = le-ltb (m * up e * down e) (m * up e * down e) (le-refl _)
