@@ -1,3 +1,3 @@
 pub mod Listed
-pub mod Arrived
+pub mod Loads
 pub mod Advanced

@@ -33,7 +33,11 @@ pub fn make(flows: Flows, call: Call, path: &[u32], lent: &mut [u32]) -> Made
         }
         Call::NextCompletionDelay => changing(questions::next_completion_delay(flows)),
         Call::EstimateNew(e) => estimate(flows, e, path),
-        Call::EstimateRemaining(id) => changing(estimates::estimate_remaining(flows, id)),
+        Call::Settle => changing(time_left::settle(flows)),
+        Call::Remaining(id) => {
+            let left = time_left::remaining(flows, id);
+            asking(flows, Said::TimeLeft(left))
+        }
         Call::MeanInFlight(edge, until) => {
             let answer = questions::mean_in_flight(flows, edge, until);
             asking(flows, Said::Answered(answer))

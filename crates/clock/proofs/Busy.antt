@@ -6,7 +6,7 @@ use lib.ListN.{getD, length, replicate}
 use lib.Ieee.{Float}
 use Rattle.rules.specs.declared.Flows.{Flows}
 use Rattle.rules.specs.Lists.{map-from}
-use Rattle.rules.specs.Records.{own-path, path-of, with-edges, with-in-flight}
+use Rattle.rules.specs.Records.{own-path, path-of, with-edges, with-in-flight, with-clock, drain-noted}
 use Rattle.rules.specs.Clock.{crossings-by, counts-in-loads, edge-loads, gain-busy, drained, drain-slots}
 use Rattle.crossings.specs.Loads.{loads-by, loads}
 use Rattle.rules.proofs.Numbered.{map-from-same, map-from-numbers}
@@ -27,12 +27,12 @@ busy-by-load f places load right dt =
 -- ---- after a drain
 
 pub drained-places : (until : Float) (f : Flows) → length (drain-slots until f .edges) ≡ length (f .edges)
-unfolding drain-slots with-edges with-in-flight
+unfolding drain-slots drain-noted with-edges with-in-flight with-clock
 drained-places until f = length-delivered until (f .edges) (f .«in_flight»)
 
 -- the slots cross the edges as often as before
 pub drained-loads : (until : Float) (f : Flows) → length (f .edges) ≡ 64 → loads (f .«in_flight») ≡ edge-loads (drain-slots until f) .load
-unfolding edge-loads drain-slots with-edges with-in-flight loads-by
+unfolding edge-loads drain-slots drain-noted with-edges with-in-flight with-clock loads-by
 drained-loads until f places =
     map-from-numbers 0 (crossings-by counts-in-loads own-path (f .«in_flight»)) (replicate 64 0) (drain-slots until f .edges) (sym (drained-places until f ∙ places))
     ∙ map-from-same 0 (λ e edge. crossings-by counts-in-loads own-path (f .«in_flight») e) (λ e edge. crossings-by counts-in-loads own-path (map (drained until) (f .«in_flight»)) e) (drain-slots until f .edges)

@@ -36,6 +36,7 @@ pub fn ensure_rates(flows: Flows) -> Flows
         after.edge_load = edge_load;
         let refreshed = Clock {
             now: clock.now,
+            last_drain: clock.last_drain,
             rates_dirty: false,
             next_done_at: next_done_at,
             rounds: filled.rounds,
@@ -100,6 +101,7 @@ pub fn pass_time(flows: Flows, load: [usize; 64], until: f64) -> Flows
     ensures { λ r. ⌜ r ≡ pass-time until flows ⌝ }
 {
     let clock = flows.clock;
+    let last_drain = clock.last_drain;
     let next_done_at = clock.next_done_at;
     let dt = until - clock.now;
     let mut edges = flows.edges;
@@ -111,6 +113,7 @@ pub fn pass_time(flows: Flows, load: [usize; 64], until: f64) -> Flows
     after.edges = edges;
     let moved = Clock {
         now: until,
+        last_drain: last_drain,
         rates_dirty: clock.rates_dirty,
         next_done_at: next_done_at,
         rounds: clock.rounds,
@@ -119,7 +122,7 @@ pub fn pass_time(flows: Flows, load: [usize; 64], until: f64) -> Flows
     after
 }
 
-// Every slot drained to a time, and the edges credited with what was moved.
+// Every slot drained to a time, the edges credited with what was moved, and the time noted.
 pub fn drain_slots(flows: Flows, until: f64) -> Flows
     requires { ⌜ Invariant flows ⌝ }
     ensures { λ r. ⌜ r ≡ drain-slots until flows ⌝ }
@@ -131,5 +134,6 @@ pub fn drain_slots(flows: Flows, until: f64) -> Flows
     let mut after = flows;
     after.edges = credited;
     after.in_flight = drained;
+    after.clock.last_drain = until;
     after
 }

@@ -1,3 +1,1 @@
 pub mod Shares
-pub mod Times
-pub mod TimeLeft

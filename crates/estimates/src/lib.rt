@@ -1,25 +1,19 @@
-// Estimates: the time a transfer would need that is not there yet, and the time left of one in flight.
+// Estimates: the time a transfer would need that is not there yet.
 use crossings::Counted;
 use rules::Answer;
 use rules::Cap;
-use rules::Delay;
 use rules::Edge;
 use rules::Flows;
-use rules::Outcome;
-use rules::Transfer;
-use slots::Lookup;
 ghost use mathlib.Core.Path.{_≡_};
 ghost use mathlib.Core.Bool.{_||_};
 ghost use Prim.Native.Nat.{_+_, _≤_};
 ghost use Rattle.doubles.specs.Doubles.{_⊘_, whole};
 ghost use Rattle.rules.specs.Filling.{takes-part};
 ghost use Rattle.rules.specs.Refusals.{not-finite, not-an-amount, not-a-cap};
-ghost use Rattle.rules.specs.Questions.{estimate-new-capped, estimate-new, estimate, path-share, share-or-cap, time-at-share, time-alone, estimate-remaining, remaining, or-cannot-finish};
+ghost use Rattle.rules.specs.Questions.{estimate-new-capped, estimate-new, estimate, path-share, share-or-cap, time-at-share, time-alone};
 ghost use Rattle.rules.specs.Invariant.{Invariant};
 ghost use Rattle.paths.specs.Known.{Known};
 ghost use Rattle.crossings.specs.Loads.{loads-by};
-
-// ---- a new transfer
 
 // How long a new transfer would take without a cap of its own.
 pub fn estimate_new(flows: Flows, path: &[u32], bytes: f64, latency: f64) -> Answer
@@ -145,46 +139,4 @@ fn time_alone(latency: f64, bytes: f64, cap: Cap) -> f64
     } else {
         latency
     }
-}
-
-// ---- a transfer in flight
-
-// How long a transfer still takes, drained to the clock and under rates brought up to date.
-pub fn estimate_remaining(flows: Flows, id: u32) -> Outcome
-    requires { ⌜ Invariant flows ⌝ }
-    ensures exactly { λ r. ⌜ r ≡ estimate-remaining id flows ⌝ }
-    ensures sound { λ r. ⌜ Invariant (r .flows) ⌝ }
-{
-    let drained = clock::drained_to_clock(flows);
-    let after = clock::ensure_rates(drained);
-    let in_flight = after.in_flight;
-    let tolerance = after.tolerance;
-    let clock = after.clock;
-    let eps = transfers::done_eps(tolerance, clock.now);
-    let answer = remaining(in_flight, id, eps);
-    Outcome {
-        answer: answer,
-        flows: after,
-    }
-}
-
-// The time to done of the transfer with that id, if one has it.
-fn remaining(in_flight: [Transfer; 256], id: u32, eps: f64) -> Answer
-    ensures { λ r. ⌜ r ≡ remaining id eps in_flight ⌝ }
-{
-    let Lookup::Slot(i) = slots::find(in_flight, id) else {
-        return Answer::Unknown;
-    };
-    let t = in_flight[i];
-    or_cannot_finish(transfers::time_to_done(t, eps))
-}
-
-// A delay as an answer; one that never ends is no time.
-fn or_cannot_finish(d: Delay) -> Answer
-    ensures { λ r. ⌜ r ≡ or-cannot-finish d ⌝ }
-{
-    let Delay::After(x) = d else {
-        return Answer::CannotFinish;
-    };
-    Answer::Value(x)
 }

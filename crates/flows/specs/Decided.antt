@@ -24,8 +24,10 @@ use Rattle.questions.proofs.next_completion_delay.Reads as next-completion-dela
 use Rattle.questions.proofs.next_completion_delay.Kinds as next-completion-delay-kinds
 use Rattle.questions.proofs.rate.Reads as rate
 use Rattle.questions.proofs.rate.Kinds as rate-kinds
-use Rattle.estimates.proofs.estimate_remaining.Reads as estimate-remaining
-use Rattle.estimates.proofs.estimate_remaining.Kinds as estimate-remaining-kinds
+use Rattle.time_left.proofs.settle.Reads as settle
+use Rattle.time_left.proofs.settle.Kinds as settle-kinds
+use Rattle.time_left.proofs.remaining.Reads as remaining
+use Rattle.time_left.proofs.remaining.Kinds as remaining-kinds
 use Rattle.estimates.proofs.estimate_new_capped.Reads as estimate-new-capped
 use Rattle.estimates.proofs.estimate_new_capped.Kinds as estimate-new-capped-kinds
 use Rattle.estimates.proofs.estimate_new.Reads as estimate-new
@@ -81,7 +83,8 @@ pub record EachDecided : Type 0 where
   pub submit : Decided 1 submit-kinds.ps submit-kinds.r submit.Post
   pub next-completion-delay : Decided 0 next-completion-delay-kinds.ps next-completion-delay-kinds.r next-completion-delay.Post
   pub rate : Decided 0 rate-kinds.ps rate-kinds.r rate.Post
-  pub estimate-remaining : Decided 0 estimate-remaining-kinds.ps estimate-remaining-kinds.r estimate-remaining.Post
+  pub settle : Decided 0 settle-kinds.ps settle-kinds.r settle.Post
+  pub remaining : Decided 0 remaining-kinds.ps remaining-kinds.r remaining.Post
   pub estimate-new-capped : Decided 1 estimate-new-capped-kinds.ps estimate-new-capped-kinds.r estimate-new-capped.Post
   pub estimate-new : Decided 1 estimate-new-kinds.ps estimate-new-kinds.r estimate-new.Post
   pub edge : Decided 0 edge-kinds.ps edge-kinds.r edge.Post

@@ -3,7 +3,7 @@ use Prim.Native.Nat.{ℕ, _*_, _≤_}
 use Rattle.rules.specs.declared.Answer.{Answer}
 use Rattle.rules.specs.declared.Answer.the-variants.{Done, Added, Listed, Nothing, Unknown, CannotFinish, Value, Due, Refused}
 use Rattle.rules.specs.declared.Call.{Call}
-use Rattle.rules.specs.declared.Call.the-variants.{Advance, Submit, Cancel, AddEdge, Widen, TakeCompleted, OwnersWithCompletions, NextCompletionDelay, EstimateNew, EstimateRemaining, MeanInFlight, Rate, Edge, Contains, Rounds}
+use Rattle.rules.specs.declared.Call.the-variants.{Advance, Submit, Cancel, AddEdge, Widen, TakeCompleted, OwnersWithCompletions, NextCompletionDelay, EstimateNew, Settle, Remaining, MeanInFlight, Rate, Edge, Contains, Rounds}
 use Rattle.rules.specs.declared.Said.{Said}
 use Rattle.rules.specs.declared.Said.the-variants as Said-variants
 
@@ -18,7 +18,8 @@ width-of (TakeCompleted owner) = 1
 width-of OwnersWithCompletions = 2
 width-of NextCompletionDelay = 0
 width-of (EstimateNew e) = 0
-width-of (EstimateRemaining id) = 0
+width-of Settle = 0
+width-of (Remaining id) = 0
 width-of (MeanInFlight e until) = 0
 width-of (Rate id) = 0
 width-of (Edge e) = 0
@@ -41,5 +42,6 @@ Fits width places (Refused n) = Unit {0}
 unfoldable pub FitsSaid : ℕ → ℕ → Said → Type 0
 FitsSaid width places (Said-variants.Answered answer) = Fits width places answer
 FitsSaid width places (Said-variants.Edge e) = Unit {0}
+FitsSaid width places (Said-variants.TimeLeft t) = Unit {0}
 FitsSaid width places (Said-variants.Truth b) = Unit {0}
 FitsSaid width places (Said-variants.Number n) = Unit {0}

@@ -20,6 +20,7 @@ pub use rules::Route;
 pub use rules::Said;
 pub use rules::Submission;
 pub use rules::Tally;
+pub use rules::TimeLeft;
 pub use rules::Tolerance;
 pub use rules::Totals;
 pub use rules::Transfer;
@@ -34,16 +35,17 @@ pub use edges::add_edge;
 pub use edges::widen;
 pub use submission::submit;
 pub use submission::submit_capped;
+pub use time_left::settle;
 
 // ---- questions
 pub use estimates::estimate_new;
 pub use estimates::estimate_new_capped;
-pub use estimates::estimate_remaining;
 pub use lists::owners_with_completions;
 pub use questions::edge;
 pub use questions::mean_in_flight;
 pub use questions::next_completion_delay;
 pub use questions::rate;
+pub use time_left::remaining;
 pub use totals::bytes_submitted;
 pub use totals::cancelled_counts;
 pub use totals::completed_counts;

@@ -22,7 +22,8 @@ use Rattle.rules.specs.Edges.{edge-added, edge-widened, add-edge, widen}
 use Rattle.rules.specs.Submission.{submit-capped}
 use Rattle.rules.specs.Advance.{quiet, done-list, list-done, advance}
 use Rattle.rules.specs.Cancel.{cancelled, cancel}
-use Rattle.rules.specs.Questions.{next-completion-delay, estimate-remaining, rate}
+use Rattle.rules.specs.Questions.{next-completion-delay, rate}
+use Rattle.rules.specs.TimeLeft.{settle}
 use Rattle.rules.specs.Histories.{typed-cap, typed-call, call, Turn, typed, after}
 use Rattle.rules.specs.Invariant.{Invariant}
 use Rattle.rules.specs.Tallies.{Ledger, note-submitted, note-cancelled, entries, is-yes, list-length, says-done, says-listed, noted}
@@ -55,8 +56,9 @@ module _ {f : Flows} (inv : Invariant f) where
   unfolding widen edge-widened made-stale with-clock with-edges
   widen-unheard e amount = refused-or (λ (o : Outcome). Unheard f (o .flows)) _ (refused f) _ (λ n. unheard-same) (λ clear. unheard-then to-clock (unheard-of refl refl))
 
-  remaining-unheard : Unheard f (ensure-rates (drained-to-clock f))
-  remaining-unheard = unheard-then to-clock (unheard-refreshed (ensure-rates-refreshes (drained-to-clock-keeps inv)))
+  settle-unheard : Unheard f (settle f .flows)
+  unfolding settle
+  settle-unheard = unheard-then to-clock (unheard-refreshed (ensure-rates-refreshes (drained-to-clock-keeps inv)))
 
 taking-unheard : (ids : List ℕ) (owner : Owner) (f : Flows) (buffer : List ℕ) → Unheard f (taking ids owner f buffer .outcome .flows)
 unfolding taking collected with-waiting
@@ -122,7 +124,7 @@ module _ {f : Flows} {l : Ledger} (inv : Invariant f) (agrees : Agrees f l) wher
 
 call-agrees : (c : Call) (path : List ℕ) (f : Flows) (buffer : List ℕ) (l : Ledger) → T (typed-call c) → Invariant f → Agrees f l
     → let left = call c path f buffer in Agrees (left .made .flows) (noted c (left .made .said) (left .buffer) l)
-unfolding call typed-call noted says-done says-listed next-completion-delay estimate-remaining rate take-completed Heard
+unfolding call typed-call noted says-done says-listed next-completion-delay rate take-completed Heard
 call-agrees (Call-variants.Advance time) path f buffer l t inv a = advance-agrees inv a time buffer t
 call-agrees (Call-variants.Submit s) path f buffer l t inv a =
     submit-agrees inv a (s .id) (s .owner) path (s .bytes) (s .latency) (s .cap) (s .time) (and-r (typed-cap (s .cap)) (fits binary64 (s .time)) (and-r (fits binary64 (s .latency)) (typed-cap (s .cap) && fits binary64 (s .time)) t))
@@ -133,7 +135,8 @@ call-agrees (Call-variants.TakeCompleted owner) path f buffer l t inv a = agrees
 call-agrees Call-variants.OwnersWithCompletions path f buffer l t inv a = agrees-unheard (owners-unheard f buffer) a
 call-agrees Call-variants.NextCompletionDelay path f buffer l t inv a = agrees-unheard (up-to-date inv) a
 call-agrees (Call-variants.EstimateNew e) path f buffer l t inv a = a
-call-agrees (Call-variants.EstimateRemaining id) path f buffer l t inv a = agrees-unheard (remaining-unheard inv) a
+call-agrees Call-variants.Settle path f buffer l t inv a = agrees-unheard (settle-unheard inv) a
+call-agrees (Call-variants.Remaining id) path f buffer l t inv a = a
 call-agrees (Call-variants.MeanInFlight e until) path f buffer l t inv a = a
 call-agrees (Call-variants.Rate id) path f buffer l t inv a = agrees-unheard (up-to-date inv) a
 call-agrees (Call-variants.Edge e) path f buffer l t inv a = a

@@ -7,7 +7,7 @@ use lib.Ieee.{binary64, fits}
 use lib.Ieee.Fits.{and-l, and-r}
 use Rattle.rules.specs.declared.Flows.{Flows}
 use Rattle.rules.specs.declared.Call.{Call}
-use Rattle.rules.specs.declared.Call.the-variants.{Advance, Submit, Cancel, AddEdge, Widen, TakeCompleted, OwnersWithCompletions, NextCompletionDelay, EstimateNew, EstimateRemaining, MeanInFlight, Rate, Edge, Contains, Rounds}
+use Rattle.rules.specs.declared.Call.the-variants.{Advance, Submit, Cancel, AddEdge, Widen, TakeCompleted, OwnersWithCompletions, NextCompletionDelay, EstimateNew, Settle, Remaining, MeanInFlight, Rate, Edge, Contains, Rounds}
 use Rattle.rules.specs.Lists.{all}
 use Rattle.rules.specs.Records.{fresh}
 use Rattle.rules.specs.Histories.{typed-cap, typed-call, call, Turn, typed, after, run}
@@ -29,7 +29,8 @@ call-keeps (TakeCompleted owner) path f buffer t inv = Keeps.take-completed-keep
 call-keeps OwnersWithCompletions path f buffer t inv = Keeps.owners-with-completions-keeps f buffer inv
 call-keeps NextCompletionDelay path f buffer t inv = Keeps.next-completion-delay-keeps f inv
 call-keeps (EstimateNew e) path f buffer t inv = inv
-call-keeps (EstimateRemaining id) path f buffer t inv = Keeps.estimate-remaining-keeps id f inv
+call-keeps Settle path f buffer t inv = Keeps.settle-keeps f inv
+call-keeps (Remaining id) path f buffer t inv = inv
 call-keeps (MeanInFlight e until) path f buffer t inv = inv
 call-keeps (Rate id) path f buffer t inv = Keeps.rate-keeps id f inv
 call-keeps (Edge e) path f buffer t inv = inv

@@ -18,7 +18,7 @@ use Rattle.rules.specs.declared.Edge.{Edge}
 use Rattle.rules.specs.declared.Answer.the-variants.{Done, Unknown}
 use Rattle.rules.specs.declared.Flows.{Flows}
 use Rattle.rules.specs.Records.{max-edges, max-path, max-slots, blank-edge, contains, num-in-flight, tally-of}
-use Rattle.rules.specs.Clock.{ensure-rates, drain-to}
+use Rattle.rules.specs.Clock.{settled}
 use Rattle.rules.specs.Refusals.{answering, refused, Lent, refused-lent, not-finite, not-an-amount, not-a-time, not-a-cap, no-such-edge, too-long, is-full, read-cap}
 use Rattle.rules.specs.Clock
 use Rattle.rules.specs.Edges
@@ -26,7 +26,8 @@ use Rattle.rules.specs.Submission
 use Rattle.rules.specs.Advance
 use Rattle.rules.specs.Cancel
 use Rattle.rules.specs.Queue.{taking, take-completed, ids-for, owners-with-completions}
-use Rattle.rules.specs.Questions.{next-completion-delay, estimate-remaining, rate}
+use Rattle.rules.specs.Questions.{next-completion-delay, rate}
+use Rattle.rules.specs.TimeLeft.{settle}
 use Rattle.rules.specs.Histories.{typed-cap}
 use Rattle.rules.specs.Invariant.{ClockTime, SoundEdge, Invariant}
 use Rattle.rules.proofs.Fresh.{nought-summed}
@@ -36,8 +37,8 @@ use Rattle.keeps.proofs.Refusing.{refused-or, neither}
 use Rattle.keeps.proofs.Arguments.{number-floored, amount-plain, time-clock, time-no-earlier, cap-sound, widened-plain}
 use Rattle.keeps.proofs.Edges.{edge-set, edge-update, other-edges}
 use Rattle.keeps.proofs.Passing.{pass-time-keeps}
-use Rattle.keeps.proofs.Refreshing.{ensure-rates-refreshes, ensure-rates-keeps, refreshed-at}
-use Rattle.keeps.proofs.Draining.{drain-to-keeps, drain-to-reaches, drained-all, drained-to-clock-keeps, drained-to-clock-reaches}
+use Rattle.keeps.proofs.Refreshing.{ensure-rates-keeps}
+use Rattle.keeps.proofs.Draining.{drain-to-keeps, drain-to-reaches, settled-at-clock, drained-to-clock-keeps, drained-to-clock-reaches}
 use Rattle.keeps.proofs.Submission.{submitted-keeps}
 use Rattle.keeps.proofs.Completing.{completed-keeps}
 use Rattle.keeps.proofs.Cancelling.{cancelled-keeps}
@@ -112,11 +113,8 @@ listing-keeps d list f buffer inv after = refused-or (λ (l : Lent). Invariant (
 
 -- drained and with rates up to date, so that who is done may leave
 pub completions-keep : {until : Float} {f : Flows} → Invariant f → ClockTime until → T (f .clock .now ≼ until)
-    → let d = ensure-rates (drain-to until f) in Invariant (Advance.completed d (Advance.done-list d))
-completions-keep {until} {f} inv time later =
-    let r = ensure-rates-refreshes (drain-to-keeps inv time later) in
-    let all = drained-all inv time later in
-    completed-keeps (ensure-rates (drain-to until f)) (r .sound) (λ i e. refreshed-at until r (all .0) i e ∙ sym (r .now ∙ all .1))
+    → let d = settled until f in Invariant (Advance.completed d (Advance.done-list d))
+completions-keep {until} {f} inv time later = completed-keeps (settled until f) (ensure-rates-keeps (drain-to-keeps inv time later)) (settled-at-clock inv time later)
 
 quiet-fresh : (until : Float) (f : Flows) → T (Advance.quiet until f) → f .clock .«rates_dirty» ≡ false
 unfolding Advance.quiet
@@ -127,7 +125,7 @@ unfolding Advance.advance
 advance-keeps until f buffer typed inv = refused-or (λ (l : Lent). Invariant (l .outcome .flows)) _ (refused-lent f buffer) _ (λ n. inv) (λ none.
     let time = time-clock until typed (none .0) in
     let later = time-no-earlier until typed (none .0) (inv .clock .plain) (none .1 .0) in
-    let d = ensure-rates (drain-to (read-zero until) f) in
+    let d = settled (read-zero until) f in
     by-test (λ (l : Lent). Invariant (l .outcome .flows)) (Advance.quiet (read-zero until) f) (λ still. pass-time-keeps inv time later (quiet-fresh (read-zero until) f still))
     (listing-keeps d (Advance.done-list d) f buffer inv (completions-keep inv time later)))
 
@@ -153,15 +151,15 @@ pub owners-with-completions-keeps : (f : Flows) (buffer : List ℕ) → Invarian
 unfolding owners-with-completions
 owners-with-completions-keeps f buffer inv = refused-or (λ (l : Lent). Invariant (l .outcome .flows)) _ (refused-lent f buffer) _ (λ n. inv) (λ none. inv)
 
--- ---- questions that bring rates up to date
+-- ---- what drains, or brings rates up to date
 
 pub next-completion-delay-keeps : (f : Flows) → Invariant f → Invariant (next-completion-delay f .flows)
 unfolding next-completion-delay
 next-completion-delay-keeps f inv = ensure-rates-keeps inv
 
-pub estimate-remaining-keeps : (id : ℕ) (f : Flows) → Invariant f → Invariant (estimate-remaining id f .flows)
-unfolding estimate-remaining
-estimate-remaining-keeps id f inv = ensure-rates-keeps (drained-to-clock-keeps inv)
+pub settle-keeps : (f : Flows) → Invariant f → Invariant (settle f .flows)
+unfolding settle
+settle-keeps f inv = ensure-rates-keeps (drained-to-clock-keeps inv)
 
 pub rate-keeps : (id : ℕ) (f : Flows) → Invariant f → Invariant (rate id f .flows)
 unfolding rate

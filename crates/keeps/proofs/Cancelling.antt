@@ -106,7 +106,6 @@ module _ (id : ℕ) (f : Flows) (known : contains id f ≡ true) (g : Flows) (re
       other-slots was slots counted
       (crowd-cleared (has-id id) (g .«in_flight») (was .crowd) (was .each))
       (each-cleared (has-id id) (SoundSlot g) (g .«in_flight») (free-slot g) (was .each))
-      (each-cleared (has-id id) (λ t. t .taken ≡ true → t .«last_update» ≡ g .clock .now) (g .«in_flight») (λ e. absurd (true≢false (sym e))) (was .at-clock))
       owing
 
 pub cancelled-keeps : (id : ℕ) (f : Flows) → contains id f ≡ true → Reached (f .clock .now) f (drained-to-clock f) → Invariant (cancelled id f)

@@ -1,8 +1,8 @@
 -- Those that are done leave their slots and are owed; each that is counted and queued is owed no more, and in the end nothing is. Assumes nothing.
 use Prim.Native.Nat.{suc, _+_, _≤_}
 use native.Mathlib.Omega.{arith}
-use mathlib.Core.Path.{_≡_, refl, sym}
-use mathlib.Core.Bool.{Bool, true, false, _&&_, cond, true≢false}
+use mathlib.Core.Path.{_≡_, refl}
+use mathlib.Core.Bool.{Bool, true, false, _&&_, cond}
 use mathlib.Core.List.{List, [], _∷_, map, foldl}
 use lib.Dec.{ltb}
 use lib.ListN.{length, take}
@@ -17,7 +17,7 @@ use Rattle.rules.specs.Advance.{done-now, by-id, done-list, count-completed, co
 use Rattle.rules.specs.Invariant.{SoundSlot, of-kind, Invariant}
 use Rattle.rules.proofs.Counting.{count-map, one-if, count-same, count-those, count-cleared, count-everyone}
 use Rattle.keeps.proofs.Parts.{parts}
-use Rattle.keeps.proofs.Drained.{AllAt, owed-by, Owing, Drained, drained-parts, made-stale-keeps, slot-in, free-slot}
+use Rattle.keeps.proofs.Drained.{owed-by, Owing, Drained, drained-parts, made-stale-keeps, slot-in, free-slot}
 use Rattle.keeps.proofs.Tally.{changed, changed-peak, on-tally-is, each-tally}
 use Rattle.keeps.proofs.Slots.{other-slots, cleared, each-cleared, crowd-cleared}
 use Rattle.keeps.proofs.Ascending.{ascending-inserted, inserted-length}
@@ -85,7 +85,6 @@ emptied-drained d was =
     other-slots was (map (cleared done) slots) (d .totals)
     (crowd-cleared done slots (was .crowd) (was .each))
     (each-cleared done (SoundSlot d) slots (free-slot d) (was .each))
-    (each-cleared done (λ t. t .taken ≡ true → t .«last_update» ≡ d .clock .now) slots (λ e. absurd (true≢false (sym e))) (was .at-clock))
     (record {
       room = omega (arith, was .totals .room, all-leave d);
       reached = omega (arith, was .totals .reached, all-leave d);
@@ -111,7 +110,7 @@ one-queued owed c f was =
       edges = was .edges;
       queue = queue-sound queue (ascending-inserted c (take (f .«num_completed») (f .completed)) (waiting-ascends (was .queue) few)) (omega (arith, was .totals .room));
       crowd = was .crowd;
-      each = λ i. slot-in f (with-totals (changed (c .owner) count-completed (f .totals)) (queued c f)) (omega arith) (λ l. l) (was .each i);
+      each = λ i. slot-in f (with-totals (changed (c .owner) count-completed (f .totals)) (queued c f)) (omega arith) refl (was .each i);
       at-clock = was .at-clock;
       totals = record {
         room = omega (arith, was .totals .room);
@@ -127,7 +126,7 @@ all-queued : (list : List Completion) (f : Flows) → Drained list f → Drained
 all-queued [] f was = was
 all-queued (c ∷ list) f was = all-queued list (completed-one f c) (one-queued list c f was)
 
-pub completed-keeps : (d : Flows) → Invariant d → AllAt (d .clock .now) (d .«in_flight») → Invariant (completed d (done-list d))
+pub completed-keeps : (d : Flows) → Invariant d → d .clock .«last_drain» ≡ d .clock .now → Invariant (completed d (done-list d))
 unfolding completed
 completed-keeps d inv at = go (done-list d) (emptied-drained d (drained-parts (parts inv) at))
   where

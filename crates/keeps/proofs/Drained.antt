@@ -5,10 +5,8 @@ use native.Mathlib.Omega.{arith}
 use mathlib.Core.Path.{_≡_, refl, sym, _∙_}
 use mathlib.Core.Bool.{Bool, true, true≢false}
 use mathlib.Core.List.{List, []}
-use lib.Dec.{T, eqb}
+use lib.Dec.{eqb}
 use lib.ListN.{length}
-use lib.Ieee.{Float}
-use Rattle.doubles.specs.Doubles.{_≼_}
 use Rattle.rules.specs.declared.Owner.{Owner}
 use Rattle.rules.specs.declared.Transfer.{Transfer}
 use Rattle.rules.specs.declared.Completion.{Completion}
@@ -20,11 +18,7 @@ use Rattle.rules.specs.Tolerance.{default-tolerance}
 use Rattle.rules.specs.Records.{max-slots, free, owner-kind, tally-of, with-clock, made-stale}
 use Rattle.rules.specs.Invariant.{Summed, SoundTransfer, SoundSlot, of-kind, Invariant}
 use Rattle.rules.proofs.Routes.{route-more}
-use Rattle.keeps.proofs.Parts.{ClockSound, EdgesSound, QueueSound, CrowdSound, SlotsSound, TotalsSound, Parts, joined}
-
--- All in flight have been drained to the time T.
-abbrev pub AllAt : Float → List Transfer → Type 0
-AllAt T slots = Each (λ t. t .taken ≡ true → t .«last_update» ≡ T) free slots
+use Rattle.keeps.proofs.Parts.{ClockSound, EdgesSound, QueueSound, CrowdSound, TotalsSound, Parts, joined}
 
 -- Whether a completion's owner is of that kind.
 abbrev pub owed-by : ℕ → Completion → Bool
@@ -50,7 +44,7 @@ pub record Drained (owed : List Completion) (f : Flows) : Type 0 where
   pub queue : QueueSound (f .completed) (f .«num_completed»)
   pub crowd : CrowdSound (f .«in_flight»)
   pub each : Each (SoundSlot f) free (f .«in_flight»)
-  pub at-clock : AllAt (f .clock .now) (f .«in_flight»)
+  pub at-clock : f .clock .«last_drain» ≡ f .clock .now
   pub totals : AllOwing owed (f .«in_flight») (f .«num_completed») (f .totals)
 
 -- ---- nothing owed
@@ -74,14 +68,14 @@ module _ {slots : List Transfer} {n : ℕ} {totals : Totals} where
     balanced = λ owner. record { accounted = omega (arith, t .balanced owner .accounted); fits = t .balanced owner .fits; bytes = t .balanced owner .bytes };
   }
 
-pub drained-parts : {f : Flows} → Parts f → AllAt (f .clock .now) (f .«in_flight») → Drained [] f
+pub drained-parts : {f : Flows} → Parts f → f .clock .«last_drain» ≡ f .clock .now → Drained [] f
 drained-parts p at = record {
   tolerance = p .tolerance;
   clock = p .clock;
   edges = p .edges;
   queue = p .queue;
   crowd = p .crowd;
-  each = p .slots .each;
+  each = p .slots;
   at-clock = at;
   totals = owing-nothing (p .totals);
 }
@@ -89,8 +83,8 @@ drained-parts p at = record {
 -- ---- a transfer in another simulator
 
 module _ (f g : Flows) (more : f .«num_edges» ≤ g .«num_edges») {t : Transfer} where
-  pub sound-in : (T (t .«last_update» ≼ f .clock .now) → T (t .«last_update» ≼ g .clock .now)) → SoundTransfer f t → SoundTransfer g t
-  sound-in later s = record {
+  pub sound-in : g .clock .«last_drain» ≡ f .clock .«last_drain» → SoundTransfer f t → SoundTransfer g t
+  sound-in same s = record {
     path = route-more more (s .path);
     latency = s .latency;
     bytes = s .bytes;
@@ -98,12 +92,11 @@ module _ (f g : Flows) (more : f .«num_edges» ≤ g .«num_edges») {t : Trans
     cap = s .cap;
     rate = s .rate;
     rate-finite = s .rate-finite;
-    updated = s .updated;
-    updated-by-now = later (s .updated-by-now);
+    updated = s .updated ∙ sym same;
   }
 
-  pub slot-in : (T (t .«last_update» ≼ f .clock .now) → T (t .«last_update» ≼ g .clock .now)) → SoundSlot f t → SoundSlot g t
-  slot-in later s = record { held = λ e. sound-in later (s .held e); blank = s .blank }
+  pub slot-in : g .clock .«last_drain» ≡ f .clock .«last_drain» → SoundSlot f t → SoundSlot g t
+  slot-in same s = record { held = λ e. sound-in same (s .held e); blank = s .blank }
 
 -- a free slot is sound in any
 pub free-slot : (f : Flows) → SoundSlot f free
@@ -111,21 +104,17 @@ free-slot f = record { held = λ e. absurd (true≢false (sym e)); blank = λ e.
 
 -- ---- going stale
 
--- Where all stand at the clock, the slots' facts are those of each.
-pub slots-at : {f : Flows} → Each (SoundSlot f) free (f .«in_flight») → AllAt (f .clock .now) (f .«in_flight») → SlotsSound f
-slots-at each at = record { each = each; together = λ i j a b. at i a ∙ sym (at j b); stale = λ e. at }
-
 pub made-stale-keeps : {f : Flows} → Drained [] f → Invariant (made-stale f)
 unfolding made-stale with-clock
 made-stale-keeps {f} d =
     let g = made-stale f in
     joined (record {
       tolerance = d .tolerance;
-      clock = record { time = d .clock .time; next = d .clock .next; rounds = d .clock .rounds };
+      clock = record { time = d .clock .time; drain = d .clock .drain; by-now = d .clock .by-now; stale = λ e. d .at-clock; next = d .clock .next; rounds = d .clock .rounds };
       edges = d .edges;
       queue = d .queue;
       crowd = d .crowd;
-      slots = slots-at (λ i. slot-in f g (omega arith) (λ l. l) (d .each i)) (d .at-clock);
+      slots = λ i. slot-in f g (omega arith) refl (d .each i);
       totals = nothing-owing (d .totals);
       rates = record { right = λ e. absurd (true≢false e); few = λ e. absurd (true≢false e) };
     })

@@ -2,7 +2,7 @@
 -- Assumes nothing.
 use Prim.Native.Nat.{ℕ, zero, suc}
 use native.Mathlib.Omega.{arith}
-use mathlib.Core.Path.{_≡_, refl, ap, _∙_}
+use mathlib.Core.Path.{_≡_, refl, sym, ap, _∙_}
 use mathlib.Core.Bool.{cond}
 use mathlib.Core.List.{List, [], _∷_, map, foldl}
 use lib.Dec.{T}
@@ -12,18 +12,19 @@ use Rattle.rules.specs.declared.Edge.{Edge}
 use Rattle.rules.specs.declared.Transfer.{Transfer}
 use Rattle.rules.specs.declared.Flows.{Flows}
 use Rattle.rules.specs.Lists.{Each, update, at-each-crossing}
-use Rattle.rules.specs.Records.{free, own-path, with-edges, with-in-flight}
-use Rattle.rules.specs.Clock.{ensure-rates, moves, bytes-flowing, drained, gain-moved, deliver, pass-time, drain-slots, drain-to, drained-to-clock}
+use Rattle.rules.specs.Records.{free, own-path, with-edges, with-in-flight, with-clock, drain-noted}
+use Rattle.rules.specs.Clock.{ensure-rates, moves, bytes-flowing, drained, gain-moved, deliver, pass-time, drain-slots, drain-to, settled, drained-to-clock}
 use Rattle.rules.specs.Invariant.{ClockTime, SoundSlot, Invariant}
 use Rattle.rules.proofs.Conds.{by-test}
+use Rattle.doubles.proofs.Monotone.{plain-le-trans}
 use Rattle.keeps.proofs.Stalls.{elapsed}
 use Rattle.keeps.proofs.OneDrained.{Same, drained-same}
-use Rattle.keeps.proofs.SlotsDrained.{drained-together, slots-kept}
+use Rattle.keeps.proofs.SlotsDrained.{slots-kept}
 use Rattle.keeps.proofs.EdgesDrained.{length-delivered, delivered-sound, delivered-away}
 use Rattle.keeps.proofs.Arguments.{le-itself}
 use Rattle.keeps.proofs.Parts.{EdgesSound, parts}
 use Rattle.keeps.proofs.Crowd.{who, Alike, same-crowd}
-use Rattle.keeps.proofs.Drained.{AllAt, drained-parts, slots-at}
+use Rattle.keeps.proofs.Drained.{drained-parts}
 use Rattle.keeps.proofs.Reached.{Reached}
 use Rattle.keeps.proofs.Passing.{retimed, retimed-keeps, busied, busied-sound, busied-capacity, pass-time-is}
 use Rattle.keeps.proofs.Refreshing.{Refreshed, as-it-was, ensure-rates-refreshes}
@@ -71,36 +72,40 @@ module _ (until : Float) (g : Flows) (time : ClockTime until) (later : T (g .clo
   edges = busied (until ⊖ g .clock .now) slots credited
 
   abbrev after : Flows
-  after = retimed edges slots until g
+  after = retimed edges slots until until g
 
   alike : Alike (g .«in_flight») slots
   alike = record { same = drained-alike until (g .«in_flight») }
 
+  -- the last drain was no later than now, and so than that time
+  since : T (g .clock .«last_drain» ≼ until)
+  since = plain-le-trans (inv .last-drain) (inv .clock .plain) (time .plain) (inv .drained-by-now) later
+
   each : Each (SoundSlot after) free slots
-  each = slots-kept {f = g} after until (g .«in_flight») (inv .clock .plain) (time .plain) later (omega arith) (le-itself (time .plain)) (inv .slots)
+  each = slots-kept {f = g} after until (g .«in_flight») (inv .last-drain) (time .plain) since (omega arith) refl (inv .slots)
 
   credited-sound : EdgesSound credited (g .«num_edges»)
   credited-sound = record {
     places = length-delivered until (g .edges) (g .«in_flight») ∙ inv .edge-places;
     few = inv .few-edges;
-    sound = delivered-sound {f = g} (inv .clock .plain) (time .plain) later (g .edges) (g .«in_flight») (inv .slots) (inv .edges);
+    sound = delivered-sound {f = g} (inv .last-drain) (time .plain) since (g .edges) (g .«in_flight») (inv .slots) (inv .edges);
     blank = λ e past. delivered-away {f = g} e past until (g .edges) (g .«in_flight») (inv .slots) ∙ inv .edges-blank e past;
   }
 
   after-keeps : Invariant after
   after-keeps =
-      retimed-keeps inv edges slots until time
+      retimed-keeps inv edges slots until until time (time .plain) (le-itself (time .plain)) (λ e. refl)
       (busied-sound after (until ⊖ g .clock .now) slots credited each (same-crowd alike (parts inv .crowd) .path-room) (elapsed (inv .clock .plain) time later) credited-sound)
       alike
-      (slots-at each (drained-together until (g .«in_flight»)))
+      each
 
   after-is : pass-time until (drain-slots until g) ≡ after
-  unfolding drain-slots with-in-flight with-edges
+  unfolding drain-slots drain-noted with-in-flight with-edges with-clock
   after-is = pass-time-is until (drain-slots until g)
 
   after-reached : Reached until g after
   after-reached = record {
-    drained = drained-parts (parts after-keeps) (drained-together until (g .«in_flight»));
+    drained = drained-parts (parts after-keeps) refl;
     now = refl;
     alike = alike;
     edges = refl;
@@ -144,9 +149,9 @@ module _ {until : Float} {f : Flows} (inv : Invariant f) (time : ClockTime until
   pub drain-to-reaches : Reached until f (drain-to until f)
   drain-to-reaches = drain-to-both until f time later inv .1
 
-  -- all in flight stand at that time, and so does the clock
-  pub drained-all : AllAt until (drain-to until f .«in_flight») × (drain-to until f .clock .now ≡ until)
-  drained-all = (λ i e. drain-to-reaches .drained .at-clock i e ∙ drain-to-reaches .now, drain-to-reaches .now)
+  -- with rates up to date there the last drain is still that of the clock
+  pub settled-at-clock : settled until f .clock .«last_drain» ≡ settled until f .clock .now
+  settled-at-clock = let r = ensure-rates-refreshes drain-to-keeps in r .drain ∙ drain-to-reaches .drained .at-clock ∙ sym (r .now)
 
 -- ---- to the clock itself
 

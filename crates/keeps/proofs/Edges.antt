@@ -2,7 +2,7 @@
 -- nothing.
 use Prim.Native.Nat.{ℕ, _≤_, _<_}
 use native.Mathlib.Omega.{arith}
-use mathlib.Core.Path.{_∙_}
+use mathlib.Core.Path.{refl, _∙_}
 use mathlib.Core.List.{List}
 use lib.ListN.{getD, set, length-set}
 use lib.Seq.{getD-set-other}
@@ -37,7 +37,7 @@ other-edges {owed} {f} d edges n more sound = record {
   edges = sound;
   queue = d .queue;
   crowd = d .crowd;
-  each = λ i. slot-in f (with-edges edges n f) more (λ l. l) (d .each i);
+  each = λ i. slot-in f (with-edges edges n f) more refl (d .each i);
   at-clock = d .at-clock;
   totals = d .totals;
 }

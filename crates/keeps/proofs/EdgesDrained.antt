@@ -24,7 +24,7 @@ use Rattle.paths.proofs.PerEdge.{length-crossing}
 use Rattle.paths.proofs.Routes.{known-route, known-more}
 use Rattle.rules.proofs.Conds.{by-test}
 use Rattle.keeps.proofs.Stalls.{moved-summed, busy-summed}
-use Rattle.keeps.proofs.OneDrained.{late-enough, flow-plain, flow-bound}
+use Rattle.keeps.proofs.OneDrained.{flow-plain, flow-bound}
 
 -- ---- along a path
 module _ {A : Type 0} (P : A → Type 0) (blank : A) (f : A → A) (k : (x : A) → P x → P (f x)) where
@@ -55,8 +55,8 @@ module _ (until : Float) where
   length-delivered edges [] = refl
   length-delivered edges (t ∷ slots) = length-delivered (deliver own-path until edges t) slots ∙ length-deliver edges t
 
--- slots of a sound simulator, drained to a time that its clock is not past
-module _ {f : Flows} {until : Float} (n : Plain (f .clock .now)) (p : Plain until) (h : T (f .clock .now ≼ until)) where
+-- slots of a sound simulator, drained to a time that its last drain is not past
+module _ {f : Flows} {until : Float} (d : Plain (f .clock .«last_drain»)) (p : Plain until) (h : T (f .clock .«last_drain» ≼ until)) where
   deliver-sound : (edges : List Edge) (t : Transfer) → SoundSlot f t → Each SoundEdge blank-edge edges → Each SoundEdge blank-edge (deliver own-path until edges t)
   unfolding deliver
   deliver-sound edges t s a = by-test (Each SoundEdge blank-edge) (moves until t) credit a
@@ -64,8 +64,7 @@ module _ {f : Flows} {until : Float} (n : Plain (f .clock .now)) (p : Plain unti
       credit : T (moves until t) → Each SoundEdge blank-edge (at-each-crossing (own-path t) (gain-moved (bytes-flowing until t)) edges)
       credit m =
           let held = s .held (taken-moves until t m) in
-          let late = late-enough held n p h in
-          each-crossing SoundEdge blank-edge (gain-moved (bytes-flowing until t)) (λ e q. moved-summed q (flow-plain held p late m) (flow-bound held p late m)) (own-path t) edges a
+          each-crossing SoundEdge blank-edge (gain-moved (bytes-flowing until t)) (λ e q. moved-summed q (flow-plain held d p h m) (flow-bound held d p h m)) (own-path t) edges a
 
   pub delivered-sound : (edges : List Edge) (slots : List Transfer) → Each (SoundSlot f) free slots → Each SoundEdge blank-edge edges → Each SoundEdge blank-edge (foldl (deliver own-path until) edges slots)
   delivered-sound edges [] each a = a

@@ -26,4 +26,5 @@ pub mod Kept
 pub mod Always
 pub mod Unmoved
 pub mod Zeros
+pub mod Watching
 pub mod Fillings

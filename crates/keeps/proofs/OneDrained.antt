@@ -46,10 +46,10 @@ pub drained-free : (until : Float) (t : Transfer) → t .taken ≡ false → dra
 unfolding drained
 drained-free until t e = rw e
 
--- ---- a sound transfer, and a time that its last drain does not pass
-module _ {f : Flows} {t : Transfer} {until : Float} (s : SoundTransfer f t) (p : Plain until) (h : T (t .«last_update» ≼ until)) where
+-- ---- a sound transfer, and a time that the last drain does not pass
+module _ {f : Flows} {t : Transfer} {until : Float} (s : SoundTransfer f t) (d : Plain (f .clock .«last_drain»)) (p : Plain until) (h : T (f .clock .«last_drain» ≼ until)) where
   since : Plain (until ⊖ t .«last_update»)
-  since = difference-le-plain p (s .updated) h
+  since = rw (s .updated) (difference-le-plain p d h)
 
   pub latency-plain : Plain (t .«latency_remaining» ⊖ latency-paid until t)
   unfolding latency-paid
@@ -94,10 +94,10 @@ module _ {f : Flows} {t : Transfer} {until : Float} (s : SoundTransfer f t) (p :
   pub bytes-fall : T (cond (moves until t) (t .«bytes_remaining» ⊖ bytes-flowing until t) (t .«bytes_remaining») ≼ t .«bytes_remaining»)
   bytes-fall = by-test (λ (x : Float). T (x ≼ t .«bytes_remaining»)) (moves until t) rest-falls (exact→le (s .bytes) (s .bytes) (le-refl _))
 
-  -- it is sound in a simulator with no fewer edges whose clock has come to that time
-  pub drained-sound : (g : Flows) → f .«num_edges» ≤ g .«num_edges» → T (until ≼ g .clock .now) → t .taken ≡ true → SoundTransfer g (drained until t)
+  -- it is sound in a simulator with no fewer edges that was last drained at that time
+  pub drained-sound : (g : Flows) → f .«num_edges» ≤ g .«num_edges» → g .clock .«last_drain» ≡ until → t .taken ≡ true → SoundTransfer g (drained until t)
   unfolding drained
-  drained-sound g more by e =
+  drained-sound g more at e =
       by-true (SoundTransfer g) (t .taken) t e
       (record {
         path = route-more more (s .path);
@@ -107,20 +107,15 @@ module _ {f : Flows} {t : Transfer} {until : Float} (s : SoundTransfer f t) (p :
         cap = s .cap;
         rate = s .rate;
         rate-finite = s .rate-finite;
-        updated = p;
-        updated-by-now = by;
+        updated = sym at;
       })
 
 -- ---- slots
--- the last drain of a slot in flight is not past a time that the clock is not past
-pub late-enough : {f : Flows} {t : Transfer} {until : Float} → SoundTransfer f t → Plain (f .clock .now) → Plain until → T (f .clock .now ≼ until) → T (t .«last_update» ≼ until)
-late-enough s n p h = plain-le-trans (s .updated) n p (s .updated-by-now) h
-
-pub slot-kept : {f : Flows} {t : Transfer} (g : Flows) (until : Float) → Plain (f .clock .now) → Plain until → T (f .clock .now ≼ until) → f .«num_edges» ≤ g .«num_edges» → T (until ≼ g .clock .now) → SoundSlot f t → SoundSlot g (drained until t)
-slot-kept {f} {t} g until n p h more by s =
+pub slot-kept : {f : Flows} {t : Transfer} (g : Flows) (until : Float) → Plain (f .clock .«last_drain») → Plain until → T (f .clock .«last_drain» ≼ until) → f .«num_edges» ≤ g .«num_edges» → g .clock .«last_drain» ≡ until → SoundSlot f t → SoundSlot g (drained until t)
+slot-kept {f} {t} g until d p h more at s =
     record {
       held = λ e. let taken : t .taken ≡ true = sym (drained-same until t .taken) ∙ e in
-          drained-sound (s .held taken) p (late-enough (s .held taken) n p h) g more by taken;
+          drained-sound (s .held taken) d p h g more at taken;
       blank = λ e. let left : t .taken ≡ false = sym (drained-same until t .taken) ∙ e in
           drained-free until t left ∙ s .blank left;
     }

@@ -3,8 +3,9 @@ use Prim.Native.Nat.{ℕ, _+_, _≤_, _<_}
 use mathlib.Core.Path.{_≡_}
 use mathlib.Core.Bool.{true, false, _&&_}
 use mathlib.Core.List.{List, map}
-use lib.Dec.{ltb}
+use lib.Dec.{T, ltb}
 use lib.ListN.{length, getD}
+use Rattle.doubles.specs.Doubles.{_≼_, Plain}
 use Rattle.rules.specs.declared.Owner.{Owner}
 use Rattle.rules.specs.declared.Edge.{Edge}
 use Rattle.rules.specs.declared.Transfer.{Transfer}
@@ -19,9 +20,12 @@ use Rattle.rules.specs.Records.{max-edges, max-slots, blank-edge, free, blank-c
 use Rattle.rules.specs.Clock.{crossings-by, counts-in-loads, edge-loads}
 use Rattle.rules.specs.Invariant.{ClockTime, SoundNext, SoundEdge, SoundSlot, Balanced, Invariant}
 
--- The time, and what the last filling left beside it.
+-- The time, when the last drain was, and what the last filling left beside it.
 pub record ClockSound (clock : Clock) : Type 0 where
   pub time : ClockTime (clock .now)
+  pub drain : Plain (clock .«last_drain»)
+  pub by-now : T (clock .«last_drain» ≼ clock .now)
+  pub stale : clock .«rates_dirty» ≡ true → clock .«last_drain» ≡ clock .now
   pub next : SoundNext (clock .«next_done_at»)
   pub rounds : clock .rounds ≤ max-slots
 
@@ -43,12 +47,6 @@ pub record CrowdSound (slots : List Transfer) : Type 0 where
   pub places : length slots ≡ max-slots
   pub ids-differ : (i j : ℕ) → getD slots i free .taken ≡ true → getD slots j free .taken ≡ true → getD slots i free .id ≡ getD slots j free .id → i ≡ j
   pub path-room : sum (map (λ t. length (own-path t)) slots) ≤ 2048
-
--- Where each stands: its amounts, and the time to which it has been drained.
-pub record SlotsSound (f : Flows) : Type 0 where
-  pub each : Each (SoundSlot f) free (f .«in_flight»)
-  pub together : (i j : ℕ) → getD (f .«in_flight») i free .taken ≡ true → getD (f .«in_flight») j free .taken ≡ true → getD (f .«in_flight») i free .«last_update» ≡ getD (f .«in_flight») j free .«last_update»
-  pub stale : f .clock .«rates_dirty» ≡ true → Each (λ t. t .taken ≡ true → t .«last_update» ≡ f .clock .now) free (f .«in_flight»)
 
 -- What has been counted, beside n completions that wait.
 pub record TotalsSound (slots : List Transfer) (n : ℕ) (totals : Totals) : Type 0 where
@@ -72,7 +70,8 @@ pub record Parts (f : Flows) : Type 0 where
   pub edges : EdgesSound (f .edges) (f .«num_edges»)
   pub queue : QueueSound (f .completed) (f .«num_completed»)
   pub crowd : CrowdSound (f .«in_flight»)
-  pub slots : SlotsSound f
+  -- where each stands: its amounts, and the time to which it has been drained
+  pub slots : Each (SoundSlot f) free (f .«in_flight»)
   pub totals : TotalsSound (f .«in_flight») (f .«num_completed») (f .totals)
   pub rates : RatesSound (f .clock) (f .«edge_load») (f .«in_flight») (f .edges) (f .«num_edges»)
 
@@ -80,11 +79,11 @@ pub parts : {f : Flows} → Invariant f → Parts f
 unfolding num-in-flight edge-loads
 parts inv = record {
   tolerance = inv .tolerance;
-  clock = record { time = inv .clock; next = inv .next-done; rounds = inv .rounds-bound };
+  clock = record { time = inv .clock; drain = inv .last-drain; by-now = inv .drained-by-now; stale = inv .stale-drained; next = inv .next-done; rounds = inv .rounds-bound };
   edges = record { places = inv .edge-places; few = inv .few-edges; sound = inv .edges; blank = inv .edges-blank };
   queue = record { places = inv .queue-places; ordered = inv .queue-ordered .ordered; blank = inv .queue-blank .blank };
   crowd = record { places = inv .slot-places; ids-differ = inv .ids-differ; path-room = inv .path-room };
-  slots = record { each = inv .slots; together = inv .drained-together; stale = inv .stale-drained };
+  slots = inv .slots;
   totals = record { room = inv .room; reached = inv .peak-reached; bound = inv .peak-bound; balanced = inv .balanced };
   rates = record { right = inv .load-right; few = inv .few-rounds };
 }
@@ -96,15 +95,16 @@ joined p = record {
   slot-places = p .crowd .places;
   queue-places = p .queue .places;
   clock = p .clock .time;
+  last-drain = p .clock .drain;
+  drained-by-now = p .clock .by-now;
+  stale-drained = p .clock .stale;
   next-done = p .clock .next;
   tolerance = p .tolerance;
   few-edges = p .edges .few;
   edges = p .edges .sound;
   edges-blank = p .edges .blank;
-  slots = p .slots .each;
+  slots = p .slots;
   ids-differ = p .crowd .ids-differ;
-  drained-together = p .slots .together;
-  stale-drained = p .slots .stale;
   path-room = p .crowd .path-room;
   queue-ordered = record { ordered = p .queue .ordered };
   queue-blank = record { blank = p .queue .blank };

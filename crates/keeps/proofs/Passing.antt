@@ -7,7 +7,7 @@ use mathlib.Core.List.{List, [], _∷_, map}
 use lib.Dec.{T}
 use lib.ListN.{length}
 use lib.Ieee.{Float}
-use Rattle.doubles.specs.Doubles.{_⊖_, _≺_, _≼_, nought}
+use Rattle.doubles.specs.Doubles.{_⊖_, _≺_, _≼_, nought, Plain}
 use Rattle.rules.specs.declared.Edge.{Edge}
 use Rattle.rules.specs.declared.Transfer.{Transfer}
 use Rattle.rules.specs.declared.Flows.{Flows}
@@ -21,39 +21,39 @@ use Rattle.doubles.proofs.Monotone.{plain-le-trans}
 use Rattle.keeps.proofs.Stalls.{elapsed}
 use Rattle.crossings.proofs.Loads.{few-loads}
 use Rattle.keeps.proofs.EdgesDrained.{loads-away, busy-sound, busy-away}
-use Rattle.keeps.proofs.Parts.{EdgesSound, SlotsSound, parts, joined}
+use Rattle.keeps.proofs.Parts.{EdgesSound, parts, joined}
 use Rattle.keeps.proofs.Crowd.{Alike, same-crowd, same-totals, same-rates}
-use Rattle.keeps.proofs.Drained.{sound-in}
+use Rattle.keeps.proofs.Drained.{slot-in}
 
 -- ---- another time
 
--- The simulator with other edges, other amounts in its slots, and the clock at another time.
-abbrev pub retimed : List Edge → List Transfer → Float → Flows → Flows
-retimed edges slots T f = record {
+-- The simulator with other edges, other amounts in its slots, last drained at some time, and the clock at another.
+abbrev pub retimed : List Edge → List Transfer → Float → Float → Flows → Flows
+retimed edges slots D T f = record {
   edges = edges;
   «num_edges» = f .«num_edges»;
   «in_flight» = slots;
   completed = f .completed;
   «num_completed» = f .«num_completed»;
   «edge_load» = f .«edge_load»;
-  clock = record { now = T; «rates_dirty» = f .clock .«rates_dirty»; «next_done_at» = f .clock .«next_done_at»; rounds = f .clock .rounds };
+  clock = record { now = T; «last_drain» = D; «rates_dirty» = f .clock .«rates_dirty»; «next_done_at» = f .clock .«next_done_at»; rounds = f .clock .rounds };
   totals = f .totals;
   tolerance = f .tolerance;
 }
 
-pub retimed-keeps : {f : Flows} → Invariant f → (edges : List Edge) (slots : List Transfer) (until : Float) → ClockTime until → EdgesSound edges (f .«num_edges») → Alike (f .«in_flight») slots
-    → SlotsSound (retimed edges slots until f) → Invariant (retimed edges slots until f)
-retimed-keeps {f} inv edges slots until time sound alike each =
+pub retimed-keeps : {f : Flows} → Invariant f → (edges : List Edge) (slots : List Transfer) (drain until : Float) → ClockTime until → Plain drain → T (drain ≼ until) → (f .clock .«rates_dirty» ≡ true → drain ≡ until)
+    → EdgesSound edges (f .«num_edges») → Alike (f .«in_flight») slots → Each (SoundSlot (retimed edges slots drain until f)) free slots → Invariant (retimed edges slots drain until f)
+retimed-keeps {f} inv edges slots drain until time plain by-now stale sound alike each =
     let p = parts inv in
     joined (record {
       tolerance = p .tolerance;
-      clock = record { time = time; next = p .clock .next; rounds = p .clock .rounds };
+      clock = record { time = time; drain = plain; by-now = by-now; stale = stale; next = p .clock .next; rounds = p .clock .rounds };
       edges = sound;
       queue = p .queue;
       crowd = same-crowd alike (p .crowd);
       slots = each;
       totals = same-totals alike (p .totals);
-      rates = same-rates alike (retimed edges slots until f .clock) edges (sound .places ∙ sym (p .edges .places)) refl refl (p .rates);
+      rates = same-rates alike (retimed edges slots drain until f .clock) edges (sound .places ∙ sym (p .edges .places)) refl refl (p .rates);
     })
 
 -- ---- the edges
@@ -87,14 +87,14 @@ busied-capacity dt slots edges =
 
 -- ---- the call
 
-pub pass-time-is : (until : Float) (f : Flows) → pass-time until f ≡ retimed (busied (until ⊖ f .clock .now) (f .«in_flight») (f .edges)) (f .«in_flight») until f
+pub pass-time-is : (until : Float) (f : Flows) → pass-time until f ≡ retimed (busied (until ⊖ f .clock .now) (f .«in_flight») (f .edges)) (f .«in_flight») (f .clock .«last_drain») until f
 unfolding pass-time at-time with-clock with-edges
 pass-time-is until f = go (nought ≺ until ⊖ f .clock .now)
   where
     busy : List Edge
     busy = map-from 0 (λ e edge. gain-busy (until ⊖ f .clock .now) (crossings-by counts-in-loads own-path (f .«in_flight») e) edge) (f .edges)
 
-    go : (b : Bool) → at-time until (cond b (with-edges busy (f .«num_edges») f) f) ≡ retimed (cond b busy (f .edges)) (f .«in_flight») until f
+    go : (b : Bool) → at-time until (cond b (with-edges busy (f .«num_edges») f) f) ≡ retimed (cond b busy (f .edges)) (f .«in_flight») (f .clock .«last_drain») until f
     go true = refl
     go false = refl
 
@@ -103,15 +103,11 @@ pub pass-time-keeps : {until : Float} {f : Flows} → Invariant f → ClockTime 
 pass-time-keeps {until} {f} inv time later fresh =
     let p = parts inv in
     let edges = busied (until ⊖ f .clock .now) (f .«in_flight») (f .edges) in
-    let g = retimed edges (f .«in_flight») until f in
-    rw (pass-time-is until f) (retimed-keeps inv edges (f .«in_flight») until time
-    (busied-sound f (until ⊖ f .clock .now) (f .«in_flight») (f .edges) (p .slots .each) (p .crowd .path-room) (elapsed (p .clock .time .plain) time later) (p .edges))
+    let g = retimed edges (f .«in_flight») (f .clock .«last_drain») until f in
+    rw (pass-time-is until f) (retimed-keeps inv edges (f .«in_flight») (f .clock .«last_drain») until time
+    (p .clock .drain)
+    (plain-le-trans (p .clock .drain) (p .clock .time .plain) (time .plain) (p .clock .by-now) later)
+    (λ e. absurd (true≢false (sym e ∙ fresh)))
+    (busied-sound f (until ⊖ f .clock .now) (f .«in_flight») (f .edges) (p .slots) (p .crowd .path-room) (elapsed (p .clock .time .plain) time later) (p .edges))
     (record { same = refl })
-    (record {
-      each = λ i. record {
-        held = λ e. let s = p .slots .each i .held e in sound-in f g (omega arith) (λ l. plain-le-trans (s .updated) (p .clock .time .plain) (time .plain) l later) s;
-        blank = p .slots .each i .blank;
-      };
-      together = p .slots .together;
-      stale = λ e. absurd (true≢false (sym e ∙ fresh));
-    }))
+    (λ i. slot-in f g (omega arith) refl (p .slots i)))

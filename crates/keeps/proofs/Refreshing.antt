@@ -20,14 +20,14 @@ use Rattle.rules.proofs.Conds.{by-test}
 use Rattle.keeps.proofs.Waits.{next-sound}
 use Rattle.keeps.proofs.Parts.{parts, joined}
 use Rattle.keeps.proofs.Crowd.{who, Alike, same-taken, same-crowd, same-totals, same-loads}
-use Rattle.keeps.proofs.Drained.{AllAt, slot-in}
+use Rattle.keeps.proofs.Drained.{slot-in}
 
 -- A simulator with rates brought up to date, beside what it was.
 pub record Refreshed (f g : Flows) : Type 0 where
   pub sound : Invariant g
   pub now : g .clock .now ≡ f .clock .now
   pub alike : Alike (f .«in_flight») (g .«in_flight»)
-  pub times : (i : ℕ) → getD (g .«in_flight») i free .«last_update» ≡ getD (f .«in_flight») i free .«last_update»
+  pub drain : g .clock .«last_drain» ≡ f .clock .«last_drain»
   pub edges : g .edges ≡ f .edges
   pub number : g .«num_edges» ≡ f .«num_edges»
   pub waiting : g .«num_completed» ≡ f .«num_completed»
@@ -44,7 +44,6 @@ rate-sound rate s r = record {
   rate = r .rate;
   rate-finite = r .rate-finite;
   updated = s .updated;
-  updated-by-now = s .updated-by-now;
 }
 
 module _ (f : Flows) (inv : Invariant f) where
@@ -60,10 +59,6 @@ module _ (f : Flows) (inv : Invariant f) where
     same = ext-getD (who free) (map who (rated f)) (map who (f .«in_flight»)) (length-map (rated f) who ∙ rated-length f inv ∙ sym (length-map (f .«in_flight») who)) (λ i l.
         List·getD-map who (rated f) i free ∙ rated-keeps f inv who (λ rate t. refl) i ∙ sym (List·getD-map who (f .«in_flight») i free));
   }
-
-  rated-times : (i : ℕ) → after-at i .«last_update» ≡ before-at i .«last_update»
-  unfolding with-rate
-  rated-times i = rated-keeps f inv (λ t. t .«last_update») (λ rate t. refl) i
 
   -- the transfer with its new rate
   rated-is : (i : ℕ) → after-at i ≡ with-rate (after-at i .rate) (before-at i)
@@ -92,31 +87,23 @@ module _ (f : Flows) (inv : Invariant f) where
       let g = with-rates (recompute-rates (path-of f) (f .edges) (f .«in_flight»)) f in
       joined (record {
         tolerance = p .tolerance;
-        clock = record { time = p .clock .time; next = next-sound inv (rated f) rated-each; rounds = rounds-in-slots f inv };
+        clock = record { time = p .clock .time; drain = p .clock .drain; by-now = p .clock .by-now; stale = λ e. absurd (true≢false (sym e)); next = next-sound inv (rated f) rated-each; rounds = rounds-in-slots f inv };
         edges = p .edges;
         queue = p .queue;
         crowd = same-crowd rated-alike (p .crowd);
-        slots = record {
-          each = λ i. slot-in f g (omega arith) (λ l. l) (rated-each i);
-          together = λ i j a b. rated-times i ∙ p .slots .together i j (sym (same-taken rated-alike i) ∙ a) (sym (same-taken rated-alike j) ∙ b) ∙ sym (rated-times j);
-          stale = λ e. absurd (true≢false (sym e));
-        };
+        slots = λ i. slot-in f g (omega arith) refl (rated-each i);
         totals = same-totals rated-alike (p .totals);
         rates = record { right = λ e. sym (same-loads rated-alike (f .edges) (f .edges) (f .«num_edges») refl); few = λ e. few-rounds f inv };
       })
 
 pub as-it-was : {f : Flows} → Invariant f → Refreshed f f
-as-it-was inv = record { sound = inv; now = refl; alike = record { same = refl }; times = λ i. refl; edges = refl; number = refl; waiting = refl; totals = refl }
+as-it-was inv = record { sound = inv; now = refl; drain = refl; alike = record { same = refl }; edges = refl; number = refl; waiting = refl; totals = refl }
 
 pub ensure-rates-refreshes : {f : Flows} → Invariant f → Refreshed f (ensure-rates f)
 unfolding ensure-rates with-rates with-in-flight with-edge-load with-clock
 ensure-rates-refreshes {f} inv = by-test (Refreshed f) (f .clock .«rates_dirty»)
-    (λ stale. record { sound = with-rates-keeps f inv; now = refl; alike = rated-alike f inv; times = rated-times f inv; edges = refl; number = refl; waiting = refl; totals = refl })
+    (λ stale. record { sound = with-rates-keeps f inv; now = refl; drain = refl; alike = rated-alike f inv; edges = refl; number = refl; waiting = refl; totals = refl })
     (as-it-was inv)
 
 pub ensure-rates-keeps : {f : Flows} → Invariant f → Invariant (ensure-rates f)
 ensure-rates-keeps inv = ensure-rates-refreshes inv .sound
-
--- who had been drained to a time still has
-pub refreshed-at : {f g : Flows} (until : Float) → Refreshed f g → AllAt until (f .«in_flight») → AllAt until (g .«in_flight»)
-refreshed-at until r at i e = r .times i ∙ at i (sym (same-taken (r .alike) i) ∙ e)

@@ -19,7 +19,7 @@ use Rattle.rules.specs.Invariant.{SoundSlot}
 use Rattle.rules.proofs.Each.{each-map}
 use Rattle.rules.proofs.Conds.{by-test}
 use Rattle.keeps.proofs.Parts.{CrowdSound}
-use Rattle.keeps.proofs.Drained.{AllAt, AllOwing, Drained, slot-in, free-slot}
+use Rattle.keeps.proofs.Drained.{AllOwing, Drained, slot-in, free-slot}
 use Rattle.rules.proofs.Sums.{sum-bound}
 
 -- ---- room for paths
@@ -39,16 +39,16 @@ paths-fit slots places each = omega (arith, sum-bound (λ t. length (own-path t)
 -- ---- other slots in a drained simulator
 
 pub other-slots : {owed owed′ : List Completion} {f : Flows} → Drained owed f → (slots : List Transfer) (totals : Totals)
-    → CrowdSound slots → Each (SoundSlot f) free slots → AllAt (f .clock .now) slots → AllOwing owed′ slots (f .«num_completed») totals → Drained owed′ (with-in-flight slots (with-totals totals f))
+    → CrowdSound slots → Each (SoundSlot f) free slots → AllOwing owed′ slots (f .«num_completed») totals → Drained owed′ (with-in-flight slots (with-totals totals f))
 unfolding with-in-flight with-totals
-other-slots {f = f} d slots totals crowd each at owing = record {
+other-slots {f = f} d slots totals crowd each owing = record {
   tolerance = d .tolerance;
   clock = d .clock;
   edges = d .edges;
   queue = d .queue;
   crowd = crowd;
-  each = λ i. slot-in f (with-in-flight slots (with-totals totals f)) (omega arith) (λ l. l) (each i);
-  at-clock = at;
+  each = λ i. slot-in f (with-in-flight slots (with-totals totals f)) (omega arith) refl (each i);
+  at-clock = d .at-clock;
   totals = owing;
 }
 

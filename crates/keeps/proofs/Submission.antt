@@ -2,7 +2,7 @@
 -- Assumes nothing.
 use Prim.Native.Nat.{ℕ, _+_, _-_, _^_, _≤_, _<_, max}
 use native.Mathlib.Omega.{arith}
-use mathlib.Core.Path.{_≡_, refl, sym, ap, _∙_, subst}
+use mathlib.Core.Path.{_≡_, refl, sym, ap, _∙_}
 use mathlib.Core.Logic.{inl}
 use mathlib.Core.Bool.{Bool, true, false, true≢false}
 use mathlib.Core.List.{List, []}
@@ -29,7 +29,6 @@ use Rattle.rules.specs.Invariant.{SoundCap, SoundTransfer, SoundSlot, of-kind, 
 use Rattle.rules.proofs.Each.{each-set}
 use Rattle.doubles.proofs.Monotone.{count-le}
 use Rattle.keeps.proofs.Stalls.{summed}
-use Rattle.keeps.proofs.Arguments.{le-itself}
 use Rattle.keeps.proofs.Crowd.{Who, same-count, same-at, same-taken}
 use Rattle.keeps.proofs.Drained.{Owing, AllOwing, Drained, made-stale-keeps}
 use Rattle.rules.proofs.Counting.{one-if, count-set}
@@ -67,7 +66,6 @@ module _ (id : ℕ) (owner : Owner) (path : List ℕ) (bytes : ℕ) (latency : F
   one-sound : SoundTransfer g one
   unfolding submitted-transfer
   one-sound =
-      let time : Plain until = subst Plain (reached .now) (reached .drained .clock .time .plain) in
       record {
         path = rw (reached .edges) (route-sound (f .«num_edges») path (s .short) (s .known));
         latency = s .paid;
@@ -76,8 +74,7 @@ module _ (id : ℕ) (owner : Owner) (path : List ℕ) (bytes : ℕ) (latency : F
         cap = s .capped;
         rate = plain-nonneg nought-plain;
         rate-finite = inl nought-plain;
-        updated = time;
-        updated-by-now = rw (reached .now) (le-itself time);
+        updated = sym (reached .drained .at-clock ∙ reached .now);
       }
 
   -- nobody else has the id
@@ -149,7 +146,6 @@ module _ (id : ℕ) (owner : Owner) (path : List ℕ) (bytes : ℕ) (latency : F
         other-slots was slots (peaked (count (λ t. t .taken) slots) counted)
         (crowd-set (g .«in_flight») (p .slot) one (p .inside) (was .crowd) each (λ e i other a same. own-id i a same))
         each
-        (each-set (λ t. t .taken ≡ true → t .«last_update» ≡ g .clock .now) free (g .«in_flight») (p .slot) one (was .at-clock) (λ e. sym (reached .now)))
         owing
 
 module _ (id : ℕ) (owner : Owner) (path : List ℕ) (bytes : ℕ) (latency : Float) (cap : Cap) (until : Float) (f : Flows) where

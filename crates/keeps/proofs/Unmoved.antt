@@ -22,7 +22,7 @@ use Rattle.rules.specs.Submission as Submission
 use Rattle.rules.specs.Advance as Advance
 use Rattle.rules.specs.Cancel as Cancel
 use Rattle.rules.specs.Histories.{call}
-use Rattle.rules.specs.Unmoved.{is-no, says-no, unmoved}
+use Rattle.rules.specs.Unmoved.{is-no, says-no, touch, unmoved}
 use Rattle.rules.specs.Promises.{RefusalsMoveNothing, RefusalsWriteNothing}
 use Rattle.keeps.proofs.Refusing.{refused-or}
 
@@ -75,8 +75,8 @@ pub owners-still : (f : Flows) (buffer : List ℕ) → Queue.owners-with-complet
 unfolding Queue.owners-with-completions
 owners-still f buffer = refused-or (λ (l : Lent). l .outcome .flows ≡ f) _ (refused-lent f buffer) _ (λ n. refl) (λ none. refl)
 
-call-still : (c : Call) (path : List ℕ) (f : Flows) (buffer : List ℕ) → let left = call c path f buffer in T (unmoved c (left .made .said)) → left .made .flows ≡ f
-unfolding call unmoved says-no is-no Edges.add-edge Edges.widen Submission.submit-capped
+call-still : (c : Call) (path : List ℕ) (f : Flows) (buffer : List ℕ) → let left = call c path f buffer in T (unmoved (touch c) (left .made .said)) → left .made .flows ≡ f
+unfolding call touch unmoved says-no is-no Edges.add-edge Edges.widen Submission.submit-capped
 call-still (Call-variants.Advance time) path f buffer says = still-advance time f buffer says .0
 call-still (Call-variants.Submit s) path f buffer says = refuses f _ _ (λ s. s) says
 call-still (Call-variants.Cancel id) path f buffer says = still-cancel id f says
@@ -86,7 +86,8 @@ call-still (Call-variants.TakeCompleted owner) path f buffer says = still-take o
 call-still Call-variants.OwnersWithCompletions path f buffer says = owners-still f buffer
 call-still Call-variants.NextCompletionDelay path f buffer says = absurd says
 call-still (Call-variants.EstimateNew e) path f buffer says = refl
-call-still (Call-variants.EstimateRemaining id) path f buffer says = absurd says
+call-still Call-variants.Settle path f buffer says = absurd says
+call-still (Call-variants.Remaining id) path f buffer says = refl
 call-still (Call-variants.MeanInFlight e until) path f buffer says = refl
 call-still (Call-variants.Rate id) path f buffer says = absurd says
 call-still (Call-variants.Edge e) path f buffer says = refl
@@ -105,7 +106,8 @@ call-unwritten (Call-variants.TakeCompleted owner) path f buffer says = still-ta
 call-unwritten Call-variants.OwnersWithCompletions path f buffer says = still-owners f buffer says .1
 call-unwritten Call-variants.NextCompletionDelay path f buffer says = refl
 call-unwritten (Call-variants.EstimateNew e) path f buffer says = refl
-call-unwritten (Call-variants.EstimateRemaining id) path f buffer says = refl
+call-unwritten Call-variants.Settle path f buffer says = refl
+call-unwritten (Call-variants.Remaining id) path f buffer says = refl
 call-unwritten (Call-variants.MeanInFlight e until) path f buffer says = refl
 call-unwritten (Call-variants.Rate id) path f buffer says = refl
 call-unwritten (Call-variants.Edge e) path f buffer says = refl

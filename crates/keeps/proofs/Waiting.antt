@@ -87,7 +87,7 @@ collected-keeps owner f inv =
       edges = p .edges;
       queue = queue-sound queue (ascending-those fewer (take (f .«num_completed») (f .completed)) (waiting-ascends (p .queue) few)) (omega arith);
       crowd = p .crowd;
-      slots = record { each = λ i. slot-in f (collected owner f) (omega arith) (λ l. l) (p .slots .each i); together = p .slots .together; stale = p .slots .stale };
+      slots = λ i. slot-in f (collected owner f) (omega arith) refl (p .slots i);
       totals = record { room = omega (arith, p .totals .room); reached = p .totals .reached; bound = p .totals .bound; balanced = p .totals .balanced };
       rates = p .rates;
     })

@@ -1,7 +1,7 @@
 -- The cases hold: the definitions, computed on the fresh simulator, give what each table says. Assumes nothing.
 use mathlib.Core.Path.{_≡_, refl}
 use mathlib.Core.Bool.{true}
-use Rattle.rules.specs.Cases.{CasesHold, holds, vault-door, collection, edge-limit, both-sides, crossing-by-crossing, lowest-first, stalled-read, AtNoRate}
+use Rattle.rules.specs.Cases.{CasesHold, holds, vault-door, collection, edge-limit, both-sides, crossing-by-crossing, lowest-first, stalled-read, watched-read, watched-latency, AtNoRate}
 use Rattle.rules.proofs.Everything.{everything}
 
 -- the twelve that are marked
@@ -36,6 +36,14 @@ lowest-first-holds = refl
 pub stalled-read-holds : holds stalled-read ≡ true
 unfolding everything
 stalled-read-holds = refl
+
+pub watched-read-holds : holds watched-read ≡ true
+unfolding everything
+watched-read-holds = refl
+
+pub watched-latency-holds : holds watched-latency ≡ true
+unfolding everything
+watched-latency-holds = refl
 
 pub at-no-rate : AtNoRate
 unfolding everything

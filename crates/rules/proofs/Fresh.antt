@@ -56,6 +56,9 @@ counted-keeps totals peak balanced = record {
   slot-places = refl;
   queue-places = refl;
   clock = record { plain = nought-plain; bounded = tt };
+  last-drain = nought-plain;
+  drained-by-now = tt;
+  stale-drained = λ e. absurd (let z : _≡_ {A = ℕ} 0 1 = cc in omega (arith, z));
   next-done = nobody;
   tolerance = refl;
   few-edges = omega arith;
@@ -63,8 +66,6 @@ counted-keeps totals peak balanced = record {
   edges-blank = λ e h. each-same (λ (x : Edge). x ≡ blank-edge) blank-edge 64 blank-edge refl refl e;
   slots = each-same (SoundSlot (with-totals totals fresh)) free 256 free free-sound free-sound;
   ids-differ = λ i j a b e. untaken i a;
-  drained-together = λ i j a b. untaken i a;
-  stale-drained = λ e. absurd (let z : _≡_ {A = ℕ} 0 1 = cc in omega (arith, z));
   path-room = omega arith;
   queue-ordered = record { ordered = λ i j a b. absurd (omega arith) };
   queue-blank = record { blank = λ i h. each-same (λ (x : Completion). x ≡ blank-completion) blank-completion 256 blank-completion refl refl i };

@@ -19,14 +19,14 @@ use Rattle.rules.specs.declared.EdgeRead.the-variants.{Found}
 use Rattle.rules.specs.declared.Transfer.{Transfer}
 use Rattle.rules.specs.declared.Flows.{Flows}
 use Rattle.rules.specs.declared.Call.{Call}
-use Rattle.rules.specs.declared.Call.the-variants.{Advance, Submit, Cancel, AddEdge, Widen, TakeCompleted, NextCompletionDelay, EstimateNew, EstimateRemaining, Rate, Edge, Rounds}
+use Rattle.rules.specs.declared.Call.the-variants.{Advance, Submit, Cancel, AddEdge, Widen, TakeCompleted, NextCompletionDelay, EstimateNew, Settle, Remaining, Rate, Edge, Rounds}
 use Rattle.rules.specs.declared.Said.{Said}
 use Rattle.rules.specs.declared.Said.the-variants as Said-variants
 use Rattle.rules.specs.Lists.{all}
 use Rattle.rules.specs.Tolerance.{default-tolerance}
 use Rattle.rules.specs.Tolerance as Tolerance
 use Rattle.rules.specs.Records.{route, fresh, on-tally}
-use Rattle.rules.specs.Questions.{remaining}
+use Rattle.rules.specs.TimeLeft.{remaining-in}
 use Rattle.rules.specs.Invariant.{Invariant}
 use Rattle.rules.specs.Histories.{Turn, after}
 use Rattle.rules.specs.Told.{told-answer, told}
@@ -120,6 +120,13 @@ lists-one T id = lending 6 (Advance (whole T)) (Listed 1) (0 ∷ 0 ∷ id ∷ le
 -- An edge has that capacity, so many bytes moved and that load integral.
 abbrev edge-is : ℕ → ℕ → ℕ → ℕ → Step
 edge-is e capacity moved busy = Edge e says Said-variants.Edge (Found (record { capacity = whole capacity; «bytes_moved» = whole moved; «busy_transfer_seconds» = whole busy }))
+
+-- The time left of a transfer as it is told where it is of now, and where it is behind.
+abbrev current : ℕ → Answer → Step
+current id a = Remaining id says Said-variants.TimeLeft (record { answer = a; behind = false })
+
+abbrev lagging : ℕ → Answer → Step
+lagging id a = Remaining id says Said-variants.TimeLeft (record { answer = a; behind = true })
 
 -- ---- cases 1 to 12
 
@@ -302,15 +309,58 @@ abbrev pub stalled-read : List Step
 stalled-read =
     new-edge 0 0
     ∷ sent 1 (0 ∷ []) 100 0 Uncapped
-    ∷ EstimateRemaining 1 answers CannotFinish
-    ∷ EstimateRemaining 2 answers Unknown
+    ∷ Settle answers Done
+    ∷ current 1 CannotFinish
+    ∷ current 2 Unknown
     ∷ Widen 0 (whole 10) answers Done
-    ∷ EstimateRemaining 1 answers Value (whole 10)
+    ∷ Settle answers Done
+    ∷ current 1 (Value (whole 10))
     ∷ Cancel 1 answers Done
-    ∷ EstimateRemaining 1 answers Unknown
+    ∷ Settle answers Done
+    ∷ current 1 Unknown
     ∷ AddEdge (of-bits 1) answers Added 1
     ∷ sent 3 (1 ∷ []) (2 ^ 53) 0 Uncapped
-    ∷ EstimateRemaining 3 answers Value infinity
+    ∷ Settle answers Done
+    ∷ current 3 (Value infinity)
+    ∷ []
+
+-- Asked without settling: before the filling, up to date, after a quiet advance, settled there, and when it is listed; then with nobody in flight. (02, P10)
+abbrev pub watched-read : List Step
+watched-read =
+    current 1 Unknown
+    ∷ new-edge 0 10
+    ∷ sent 1 (0 ∷ []) 100 0 Uncapped
+    ∷ lagging 1 CannotFinish
+    ∷ lagging 2 Unknown
+    ∷ delay-is (After (whole 10))
+    ∷ current 1 (Value (whole 10))
+    ∷ lists-nobody 4
+    ∷ lagging 1 (Value (whole 10))
+    ∷ edge-is 0 10 0 4
+    ∷ Settle answers Done
+    ∷ current 1 (Value (whole 6))
+    ∷ edge-is 0 10 40 4
+    ∷ lists-one 10 1
+    ∷ lagging 1 Unknown
+    ∷ Settle answers Done
+    ∷ lists-nobody 12
+    ∷ lagging 1 Unknown
+    ∷ Settle answers Done
+    ∷ current 1 Unknown
+    ∷ []
+
+-- The double above another.
+abbrev next-up : Float → Float
+next-up x = of-bits (suc (bits-of x))
+
+-- A latency just above eps counts as paid when the clock has moved by one double, for eps is the clock's; the latency itself stays as the last drain left it. (02, P10)
+abbrev pub watched-latency : List Step
+watched-latency =
+    submitting 1 (Worker 0) [] 0 (next-up (nearest 1 (2 ^ 30))) Uncapped (whole (2 ^ 20)) Done
+    ∷ Settle answers Done
+    ∷ current 1 (Value (next-up (nearest 1 (2 ^ 30))))
+    ∷ lending 6 (Advance (next-up (whole (2 ^ 20)))) (Listed 0) (lent-buffer 6)
+    ∷ lagging 1 (Value nought)
     ∷ []
 
 -- A transfer of id 1 in flight with those bytes left and no rate.
@@ -320,8 +370,8 @@ without-rate bytes = record { taken = true; id = 1; owner = Handoff; path = rout
 -- At no rate B bytes are done, and the next double above is stalled. No call leaves the first: bytes fall to B at some rate, and that rate is kept from then on. (02, P1)
 abbrev pub AtNoRate : Type 0
 AtNoRate =
-    (told-answer (remaining 1 Tolerance.F (without-rate Tolerance.B ∷ [])) ≡ told-answer (Value nought))
-    × (told-answer (remaining 1 Tolerance.F (without-rate (of-bits (suc (bits-of Tolerance.B))) ∷ [])) ≡ told-answer CannotFinish)
+    (told-answer (remaining-in 1 Tolerance.F (without-rate Tolerance.B ∷ [])) ≡ told-answer (Value nought))
+    × (told-answer (remaining-in 1 Tolerance.F (without-rate (next-up Tolerance.B) ∷ [])) ≡ told-answer CannotFinish)
 
 -- ---- the last number of a kind
 

@@ -13,7 +13,7 @@ use Rattle.rules.specs.declared.EdgeLoad.{EdgeLoad}
 use Rattle.rules.specs.declared.Transfer.{Transfer}
 use Rattle.rules.specs.declared.Flows.{Flows}
 use Rattle.rules.specs.Lists.{at-each-crossing, map-from, sum, crossings}
-use Rattle.rules.specs.Records.{path-of, with-edges, with-in-flight, with-edge-load, with-clock, at-time}
+use Rattle.rules.specs.Records.{path-of, with-edges, with-in-flight, with-edge-load, with-clock, at-time, drain-noted}
 use Rattle.rules.specs.Done.{done-eps, time-to-done, sooner}
 use Rattle.rules.specs.Filling.{Filling, recompute-rates}
 
@@ -46,6 +46,7 @@ with-rates filling f =
     let g = with-edge-load (edge-loads f) (with-in-flight (map (λ s. s .transfer) (filling .seats)) f) in
     with-clock (record {
       now = f .clock .now;
+      «last_drain» = f .clock .«last_drain»;
       «rates_dirty» = false;
       «next_done_at» = ahead (f .clock .now) (soonest (done-eps f) (g .«in_flight»));
       rounds = filling .rounds;
@@ -114,11 +115,12 @@ pass-time T f =
     let busy = map-from 0 (λ e edge. gain-busy dt (crossings-by counts-in-loads (path-of f) (f .«in_flight») e) edge) (f .edges) in
     at-time T (cond (nought ≺ dt) (with-edges busy (f .«num_edges») f) f)
 
--- All slots drained to T, in order, and the edges credited. (01, Clock)
+-- All slots drained to T, in order, the edges credited, and the time noted, with nobody in flight too. (01, Clock; 02, P10)
 unfoldable pub drain-slots : Float → Flows → Flows
 drain-slots T f =
-    with-in-flight (map (drained T) (f .«in_flight»))
-    (with-edges (foldl (deliver (path-of f) T) (f .edges) (f .«in_flight»)) (f .«num_edges») f)
+    drain-noted T
+    (with-in-flight (map (drained T) (f .«in_flight»))
+    (with-edges (foldl (deliver (path-of f) T) (f .edges) (f .«in_flight»)) (f .«num_edges») f))
 
 -- Drain to T: rates first, where T is past the clock; then the slots; then time passes. (01, Clock)
 unfoldable pub drain-to : Float → Flows → Flows

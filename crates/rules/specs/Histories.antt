@@ -9,7 +9,7 @@ use Rattle.rules.specs.declared.Cap.the-variants.{AtMost, Uncapped}
 use Rattle.rules.specs.declared.Outcome.{Outcome}
 use Rattle.rules.specs.declared.Flows.{Flows}
 use Rattle.rules.specs.declared.Call.{Call}
-use Rattle.rules.specs.declared.Call.the-variants.{Advance, Submit, Cancel, AddEdge, Widen, TakeCompleted, OwnersWithCompletions, NextCompletionDelay, EstimateNew, EstimateRemaining, MeanInFlight, Rate, Edge, Contains, Rounds}
+use Rattle.rules.specs.declared.Call.the-variants.{Advance, Submit, Cancel, AddEdge, Widen, TakeCompleted, OwnersWithCompletions, NextCompletionDelay, EstimateNew, Settle, Remaining, MeanInFlight, Rate, Edge, Contains, Rounds}
 use Rattle.rules.specs.declared.Said.{Said}
 use Rattle.rules.specs.declared.Said.the-variants as Said-variants
 use Rattle.rules.specs.declared.Made.{Made}
@@ -20,7 +20,8 @@ use Rattle.rules.specs.Edges.{add-edge, widen}
 use Rattle.rules.specs.Submission.{submit-capped}
 use Rattle.rules.specs.Advance.{advance}
 use Rattle.rules.specs.Cancel.{cancel}
-use Rattle.rules.specs.Questions.{next-completion-delay, estimate-new-capped, estimate-remaining, mean-in-flight, rate, edge}
+use Rattle.rules.specs.Questions.{next-completion-delay, estimate-new-capped, mean-in-flight, rate, edge}
+use Rattle.rules.specs.TimeLeft.{settle, remaining}
 
 -- ---- what a call leaves
 
@@ -58,7 +59,8 @@ call (TakeCompleted owner) path f buffer = listing (take-completed owner f buffe
 call OwnersWithCompletions path f buffer = listing (owners-with-completions f buffer)
 call NextCompletionDelay path f buffer = unlent (changing (next-completion-delay f)) buffer
 call (EstimateNew e) path f buffer = unlent (asking f (Said-variants.Answered (estimate-new-capped path (e .bytes) (e .latency) (e .cap) f))) buffer
-call (EstimateRemaining id) path f buffer = unlent (changing (estimate-remaining id f)) buffer
+call Settle path f buffer = unlent (changing (settle f)) buffer
+call (Remaining id) path f buffer = unlent (asking f (Said-variants.TimeLeft (remaining id f))) buffer
 call (MeanInFlight e until) path f buffer = unlent (asking f (Said-variants.Answered (mean-in-flight e until f))) buffer
 call (Rate id) path f buffer = unlent (changing (rate id f)) buffer
 call (Edge e) path f buffer = unlent (asking f (Said-variants.Edge (edge e f))) buffer
@@ -83,7 +85,8 @@ typed-call (TakeCompleted owner) = true
 typed-call OwnersWithCompletions = true
 typed-call NextCompletionDelay = true
 typed-call (EstimateNew e) = fits binary64 (e .bytes) && (fits binary64 (e .latency) && typed-cap (e .cap))
-typed-call (EstimateRemaining id) = true
+typed-call Settle = true
+typed-call (Remaining id) = true
 typed-call (MeanInFlight e until) = fits binary64 until
 typed-call (Rate id) = true
 typed-call (Edge e) = true
@@ -101,7 +104,8 @@ zeros-read (TakeCompleted owner) = TakeCompleted owner
 zeros-read OwnersWithCompletions = OwnersWithCompletions
 zeros-read NextCompletionDelay = NextCompletionDelay
 zeros-read (EstimateNew e) = EstimateNew (record { bytes = read-zero (e .bytes); latency = read-zero (e .latency); cap = read-cap (e .cap) })
-zeros-read (EstimateRemaining id) = EstimateRemaining id
+zeros-read Settle = Settle
+zeros-read (Remaining id) = Remaining id
 zeros-read (MeanInFlight e until) = MeanInFlight e (read-zero until)
 zeros-read (Rate id) = Rate id
 zeros-read (Edge e) = Edge e
@@ -128,3 +132,8 @@ after t f = call (t .call) (t .path) f (t .buffer)
 unfoldable pub run : Flows → List Turn → Flows
 run f [] = f
 run f (t ∷ turns) = run (after t f .made .flows) turns
+
+-- Each turn with what it left: what was said, the simulator then, and what the buffer then held. (02, P10)
+unfoldable pub journal : Flows → List Turn → List (Turn × Left)
+journal f [] = []
+journal f (t ∷ turns) = (t, after t f) ∷ journal (after t f .made .flows) turns

@@ -72,8 +72,8 @@ pub record SoundTransfer (f : Flows) (t : Transfer) : Type 0 where
   pub rate : Nonneg (t .rate)
   -- infinite only where it shares no edge and has no cap
   pub rate-finite : Plain (t .rate) ⊎ (t .path .len ≡ 0) × (t .«rate_cap» ≡ Uncapped)
-  pub updated : Plain (t .«last_update»)
-  pub updated-by-now : T (t .«last_update» ≼ f .clock .now)
+  -- all in flight have been drained up to one time
+  pub updated : t .«last_update» ≡ f .clock .«last_drain»
 
 -- A slot is free and blank, or holds a sound transfer.
 pub record SoundSlot (f : Flows) (t : Transfer) : Type 0 where
@@ -108,8 +108,11 @@ pub record Invariant (f : Flows) : Type 0 where
   pub edge-places : length (f .edges) ≡ max-edges
   pub slot-places : length (f .«in_flight») ≡ max-slots
   pub queue-places : length (f .completed) ≡ max-slots
-  -- the time, and when somebody is done next
+  -- the time; when transfers were last drained, which while rates are stale is now; and when somebody is done next
   pub clock : ClockTime (f .clock .now)
+  pub last-drain : Plain (f .clock .«last_drain»)
+  pub drained-by-now : T (f .clock .«last_drain» ≼ f .clock .now)
+  pub stale-drained : f .clock .«rates_dirty» ≡ true → f .clock .«last_drain» ≡ f .clock .now
   pub next-done : SoundNext (f .clock .«next_done_at»)
   pub tolerance : f .tolerance ≡ default-tolerance
   -- edges
@@ -119,9 +122,6 @@ pub record Invariant (f : Flows) : Type 0 where
   -- transfers
   pub slots : Each (SoundSlot f) free (f .«in_flight»)
   pub ids-differ : (i j : ℕ) → getD (f .«in_flight») i free .taken ≡ true → getD (f .«in_flight») j free .taken ≡ true → getD (f .«in_flight») i free .id ≡ getD (f .«in_flight») j free .id → i ≡ j
-  -- all have been drained up to one time, and while rates are stale that time is the clock's
-  pub drained-together : (i j : ℕ) → getD (f .«in_flight») i free .taken ≡ true → getD (f .«in_flight») j free .taken ≡ true → getD (f .«in_flight») i free .«last_update» ≡ getD (f .«in_flight») j free .«last_update»
-  pub stale-drained : f .clock .«rates_dirty» ≡ true → Each (λ t. t .taken ≡ true → t .«last_update» ≡ f .clock .now) free (f .«in_flight»)
   -- the paths in flight have at most 2,048 entries together, which eight for each of 256 come to
   pub path-room : sum (map (λ t. length (path-of f t)) (f .«in_flight»)) ≤ 2048
   -- the queue: in order, so no entry twice, and blank behind

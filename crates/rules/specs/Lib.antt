@@ -11,6 +11,7 @@ pub mod Submission
 pub mod Advance
 pub mod Cancel
 pub mod Questions
+pub mod TimeLeft
 pub mod Histories
 pub mod Told
 pub mod Unmoved

@@ -14,25 +14,27 @@ use Rattle.rules.specs.declared.Delay.the-variants.{Never}
 use Rattle.rules.specs.declared.Transfer.{Transfer}
 use Rattle.rules.specs.declared.Answer.{Answer}
 use Rattle.rules.specs.declared.Answer.the-variants.{Unknown, CannotFinish, Value}
+use Rattle.rules.specs.declared.Outcome.{Outcome}
 use Rattle.rules.specs.declared.Seat.{Seat}
 use Rattle.rules.specs.declared.Flows.{Flows}
 use Rattle.rules.specs.declared.Call.{Call}
-use Rattle.rules.specs.Lists.{any, all}
+use Rattle.rules.specs.Lists.{those, any, all}
 use Rattle.rules.specs.Tolerance.{B}
 use Rattle.rules.specs.Records.{free, fresh, path-of, has-id, contains}
 use Rattle.rules.specs.Done.{done-eps, is-done, time-to-done}
 use Rattle.rules.specs.Filling.{Filling, num-unfrozen, start, load, rounds-until, recompute-rates}
-use Rattle.rules.specs.Clock.{drain-to}
-use Rattle.rules.specs.Refusals.{ascending, not-a-time, short-buffer}
+use Rattle.rules.specs.Clock.{ensure-rates, drain-to, drained-to-clock}
+use Rattle.rules.specs.Refusals.{answering, ascending, not-a-time, short-buffer}
 use Rattle.rules.specs.Edges.{add-edge-causes, widen-causes}
 use Rattle.rules.specs.Submission.{submit-causes}
 use Rattle.rules.specs.Advance.{advance-causes}
-use Rattle.rules.specs.Questions.{estimate-causes, estimate-remaining, edge-causes, mean-causes}
-use Rattle.rules.specs.Histories.{call, zeros-read, Turn, typed, after, run}
+use Rattle.rules.specs.Questions.{estimate-causes, edge-causes, mean-causes}
+use Rattle.rules.specs.TimeLeft.{settle, remaining-in, behind, remaining}
+use Rattle.rules.specs.Histories.{call, zeros-read, Turn, typed, after, run, journal}
 use Rattle.rules.specs.Invariant.{Invariant}
 use Rattle.rules.specs.Fair.{FairFilling}
 use Rattle.rules.specs.Tallies.{Tallied}
-use Rattle.rules.specs.Unmoved.{says-no, unmoved}
+use Rattle.rules.specs.Unmoved.{says-no, touch, unmoved, only-reads}
 
 -- ---- over every history
 
@@ -106,19 +108,38 @@ pub record TellsTimeLeft (id : ℕ) (f : Flows) (answer : Answer) : Type 0 where
   pub never : (answer ≡ CannotFinish) ↔ InFlight id f (λ t. time-to-done (done-eps f) t ≡ Never)
   pub stalled : (answer ≡ CannotFinish) ↔ InFlight id f (λ t. T (B ≺ t .«bytes_remaining») × (t .rate ≡ nought))
 
--- The three answers on the time left mean what they say. (02, P1)
+-- The three answers on the time left mean what they say, of the simulator as it stands. (02, P1 and P10)
 abbrev pub TimeLeftTold : Type 0
-TimeLeftTold = (id : ℕ) (f : Flows) → Invariant f → let o = estimate-remaining id f in TellsTimeLeft id (o .flows) (o .answer)
+TimeLeftTold = (id : ℕ) (f : Flows) → Invariant f → TellsTimeLeft id f (remaining id f .answer)
 
 -- ---- over every simulator at all
 
 -- A call that is refused, an id that is unknown and a take with nothing waiting leave the simulator as it was. (01, Numbers)
 abbrev pub RefusalsMoveNothing : Type 0
-RefusalsMoveNothing = (t : Turn) (f : Flows) → T (unmoved (t .call) (after t f .made .said)) → after t f .made .flows ≡ f
+RefusalsMoveNothing = (t : Turn) (f : Flows) → T (unmoved (touch (t .call)) (after t f .made .said)) → after t f .made .flows ≡ f
 
 -- And the lent buffer, whatever it holds. (01, Numbers)
 abbrev pub RefusalsWriteNothing : Type 0
 RefusalsWriteNothing = (t : Turn) (f : Flows) → T (says-no (after t f .made .said)) → after t f .buffer ≡ t .buffer
+
+-- Of a history only some turns are kept: each of them says and leaves what it did among all, and so does the whole. (02, P10)
+pub record AsWithout (kept : Turn → Bool) (f : Flows) (turns : List Turn) : Type 0 where
+  pub others : journal f (those kept turns) ≡ those (λ entry. kept (entry .0)) (journal f turns)
+  pub flows : run f (those kept turns) ≡ run f turns
+
+-- A watched run is an unwatched one: questions that only read, `remaining` among them, may be put in anywhere and left out again. (02, P10)
+abbrev pub WatchedAsUnwatched : Type 0
+WatchedAsUnwatched = (kept : Turn → Bool) → ((t : Turn) → T (kept t || only-reads (touch (t .call)))) → (f : Flows) (turns : List Turn) → AsWithout kept f turns
+
+-- The one call that P10 has split in two: drained to the clock and brought up to date, and then the time left. (02, P1)
+abbrev pub estimate-remaining : ℕ → Flows → Outcome
+estimate-remaining id f = let g = ensure-rates (drained-to-clock f) in answering (remaining-in id (done-eps g) (g .«in_flight»)) g
+
+-- To settle and then to ask leaves and answers what that call did, and says that it is current. (02, P10)
+pub record SplitInTwo : Type 0 where
+  pub flows : (id : ℕ) (f : Flows) → settle f .flows ≡ estimate-remaining id f .flows
+  pub answer : (id : ℕ) (f : Flows) → remaining id (settle f .flows) .answer ≡ estimate-remaining id f .answer
+  pub current : (f : Flows) → behind (settle f .flows .clock) ≡ false
 
 -- The causes of each call ascend, so that the first that applies is the lowest. (01, Numbers)
 pub record CausesAscend : Type 0 where

@@ -16,14 +16,13 @@ use Rattle.rules.specs.declared.EdgeRead.{EdgeRead}
 use Rattle.rules.specs.declared.EdgeRead.the-variants as EdgeRead-variants
 use Rattle.rules.specs.declared.Transfer.{Transfer}
 use Rattle.rules.specs.declared.Answer.{Answer}
-use Rattle.rules.specs.declared.Answer.the-variants.{Unknown, CannotFinish, Value, Due, Refused}
+use Rattle.rules.specs.declared.Answer.the-variants.{Unknown, Value, Due, Refused}
 use Rattle.rules.specs.declared.Outcome.{Outcome}
 use Rattle.rules.specs.declared.Flows.{Flows}
 use Rattle.rules.specs.Lists.{any}
 use Rattle.rules.specs.Records.{blank-edge, path-of, of-id}
 use Rattle.rules.specs.Filling.{takes-part}
-use Rattle.rules.specs.Done.{done-eps, time-to-done}
-use Rattle.rules.specs.Clock.{crossings-by, ensure-rates, drained-to-clock}
+use Rattle.rules.specs.Clock.{crossings-by, ensure-rates}
 use Rattle.rules.specs.Refusals.{Cause, _when_, refusing, answering, not-finite, not-an-amount, not-a-cap, no-such-edge, too-long, read-cap}
 
 -- ---- the next completion
@@ -83,19 +82,6 @@ estimate-new-capped path bytes latency cap f =
 -- The same without a cap. (01, Questions)
 unfoldable pub estimate-new : List ℕ → Float → Float → Flows → Answer
 estimate-new path bytes latency f = estimate-new-capped path bytes latency Uncapped f
-
--- A time to done as it is told: its seconds, which may be without end, or that there is none. (02, P1)
-unfoldable pub or-cannot-finish : Delay → Answer
-or-cannot-finish (After d) = Value d
-or-cannot-finish Never = CannotFinish
-
--- The time to done of the transfer with that id, or that there is no such transfer. (02, P1)
-unfoldable pub remaining : ℕ → Float → List Transfer → Answer
-remaining id eps slots = of-id id Unknown (λ t. or-cannot-finish (time-to-done eps t)) slots
-
--- The time a transfer still takes, drained to the clock and with rates up to date. (01, Questions)
-unfoldable pub estimate-remaining : ℕ → Flows → Outcome
-estimate-remaining id f = let g = ensure-rates (drained-to-clock f) in answering (remaining id (done-eps g) (g .«in_flight»)) g
 
 -- ---- edges
 

@@ -86,7 +86,7 @@ fresh = record {
   completed = replicate max-slots blank-completion;
   «num_completed» = 0;
   «edge_load» = record { load = replicate max-edges 0; len = 0 };
-  clock = record { now = nought; «rates_dirty» = false; «next_done_at» = Nobody; rounds = 0 };
+  clock = record { now = nought; «last_drain» = nought; «rates_dirty» = false; «next_done_at» = Nobody; rounds = 0 };
   totals = record { «peak_in_flight» = 0; worker = no-tally; handoff = no-tally; write = no-tally };
   tolerance = default-tolerance;
 }
@@ -184,11 +184,15 @@ with-totals totals f = record { edges = f .edges; «num_edges» = f .«num_edges
 
 -- The clock moved to another time. (01, Clock)
 unfoldable pub at-time : Float → Flows → Flows
-at-time T f = with-clock (record { now = T; «rates_dirty» = f .clock .«rates_dirty»; «next_done_at» = f .clock .«next_done_at»; rounds = f .clock .rounds }) f
+at-time T f = with-clock (record { now = T; «last_drain» = f .clock .«last_drain»; «rates_dirty» = f .clock .«rates_dirty»; «next_done_at» = f .clock .«next_done_at»; rounds = f .clock .rounds }) f
+
+-- Another time noted as that of the last drain. (02, P10)
+unfoldable pub drain-noted : Float → Flows → Flows
+drain-noted T f = with-clock (record { now = f .clock .now; «last_drain» = T; «rates_dirty» = f .clock .«rates_dirty»; «next_done_at» = f .clock .«next_done_at»; rounds = f .clock .rounds }) f
 
 -- Rates gone stale; next-done and the round number stay as they were. (01, Clock)
 unfoldable pub made-stale : Flows → Flows
-made-stale f = with-clock (record { now = f .clock .now; «rates_dirty» = true; «next_done_at» = f .clock .«next_done_at»; rounds = f .clock .rounds }) f
+made-stale f = with-clock (record { now = f .clock .now; «last_drain» = f .clock .«last_drain»; «rates_dirty» = true; «next_done_at» = f .clock .«next_done_at»; rounds = f .clock .rounds }) f
 
 -- The tally of an owner's kind put through `change`. (01, Clock)
 unfoldable pub on-tally : Owner → (Tally → Tally) → Flows → Flows

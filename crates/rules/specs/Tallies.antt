@@ -9,7 +9,7 @@ use Rattle.rules.specs.declared.Answer.{Answer}
 use Rattle.rules.specs.declared.Answer.the-variants.{Done, Added, Listed, Nothing, Unknown, CannotFinish, Value, Due, Refused}
 use Rattle.rules.specs.declared.Flows.{Flows}
 use Rattle.rules.specs.declared.Call.{Call}
-use Rattle.rules.specs.declared.Call.the-variants.{Advance, Submit, Cancel, AddEdge, Widen, TakeCompleted, OwnersWithCompletions, NextCompletionDelay, EstimateNew, EstimateRemaining, MeanInFlight, Rate, Edge, Contains, Rounds}
+use Rattle.rules.specs.declared.Call.the-variants.{Advance, Submit, Cancel, AddEdge, Widen, TakeCompleted, OwnersWithCompletions, NextCompletionDelay, EstimateNew, Settle, Remaining, MeanInFlight, Rate, Edge, Contains, Rounds}
 use Rattle.rules.specs.declared.Said.{Said}
 use Rattle.rules.specs.declared.Said.the-variants as Said-variants
 use Rattle.rules.specs.Lists.{count, those}
@@ -93,6 +93,7 @@ list-length (Refused n) = 0
 unfoldable pub says-done : Said → Bool
 says-done (Said-variants.Answered answer) = is-yes answer
 says-done (Said-variants.Edge e) = false
+says-done (Said-variants.TimeLeft t) = false
 says-done (Said-variants.Truth b) = false
 says-done (Said-variants.Number n) = false
 
@@ -100,6 +101,7 @@ says-done (Said-variants.Number n) = false
 unfoldable pub says-listed : Said → ℕ
 says-listed (Said-variants.Answered answer) = list-length answer
 says-listed (Said-variants.Edge e) = 0
+says-listed (Said-variants.TimeLeft t) = 0
 says-listed (Said-variants.Truth b) = 0
 says-listed (Said-variants.Number n) = 0
 
@@ -114,7 +116,8 @@ noted (TakeCompleted owner) said buffer l = l
 noted OwnersWithCompletions said buffer l = l
 noted NextCompletionDelay said buffer l = l
 noted (EstimateNew e) said buffer l = l
-noted (EstimateRemaining id) said buffer l = l
+noted Settle said buffer l = l
+noted (Remaining id) said buffer l = l
 noted (MeanInFlight e until) said buffer l = l
 noted (Rate id) said buffer l = l
 noted (Edge e) said buffer l = l

@@ -10,7 +10,7 @@ use Rattle.rules.specs.declared.Answer.the-variants.{Done, Added, Listed
 use Rattle.rules.specs.declared.EdgeRead.{EdgeRead}
 use Rattle.rules.specs.declared.EdgeRead.the-variants as EdgeRead-variants
 use Rattle.rules.specs.declared.Said.{Said}
-use Rattle.rules.specs.declared.Said.the-variants.{Answered, Edge, Truth, Number}
+use Rattle.rules.specs.declared.Said.the-variants.{Answered, Edge, TimeLeft, Truth, Number}
 
 -- A delay: never, or its seconds. (01, Our forms)
 unfoldable pub told-delay : Delay → List ℕ
@@ -38,5 +38,6 @@ told-edge (EdgeRead-variants.Refused n) = 1 ∷ n ∷ []
 unfoldable pub told : Said → List ℕ
 told (Answered answer) = 0 ∷ told-answer answer
 told (Edge e) = 1 ∷ told-edge e
-told (Truth b) = 2 ∷ cond b 1 0 ∷ []
-told (Number n) = 3 ∷ n ∷ []
+told (TimeLeft t) = 2 ∷ cond (t .behind) 1 0 ∷ told-answer (t .answer)
+told (Truth b) = 3 ∷ cond b 1 0 ∷ []
+told (Number n) = 4 ∷ n ∷ []

@@ -90,9 +90,11 @@ pub struct EdgeLoad {
     pub len: usize,
 }
 
-// The time, and what the last filling left: whether it is out of date, when the next transfer is done, how many rounds it took.
+// The time, when transfers were last drained, and what the last filling left: whether it is out of date, when the next transfer is done, how many rounds it took.
 pub struct Clock {
     pub now: f64,
+    // Before `now` where time has passed since by quiet advances alone.
+    pub last_drain: f64,
     pub rates_dirty: bool,
     pub next_done_at: NextDone,
     pub rounds: usize,
@@ -150,6 +152,12 @@ pub enum EdgeRead {
     Refused(u32),
 }
 
+// The time left of a transfer as things stand, and whether that is behind: not drained to the clock, or told by stale rates.
+pub struct TimeLeft {
+    pub answer: Answer,
+    pub behind: bool,
+}
+
 // A submission as data. Its path is lent beside it.
 pub struct Submission {
     pub id: u32,
@@ -178,7 +186,8 @@ pub enum Call {
     OwnersWithCompletions,
     NextCompletionDelay,
     EstimateNew(Estimate),
-    EstimateRemaining(u32),
+    Settle,
+    Remaining(u32),
     MeanInFlight(u32, f64),
     Rate(u32),
     Edge(u32),
@@ -190,6 +199,7 @@ pub enum Call {
 pub enum Said {
     Answered(Answer),
     Edge(EdgeRead),
+    TimeLeft(TimeLeft),
     Truth(bool),
     Number(usize),
 }
@@ -303,6 +313,7 @@ impl Flows {
             },
             clock: Clock {
                 now: 0.0,
+                last_drain: 0.0,
                 rates_dirty: false,
                 next_done_at: NextDone::Nobody,
                 rounds: 0,

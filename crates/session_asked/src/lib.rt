@@ -121,8 +121,8 @@ fn read_short(name: &[u8], line: &[u8], at: usize) -> Ask {
     if check::same(name, b"cancel") {
         return Ask::Make(Call::Cancel(id));
     }
-    if check::same(name, b"estimate_remaining") {
-        return Ask::Make(Call::EstimateRemaining(id));
+    if check::same(name, b"remaining") {
+        return Ask::Make(Call::Remaining(id));
     }
     if check::same(name, b"rate") {
         return Ask::Make(Call::Rate(id));
@@ -140,6 +140,9 @@ fn read_short(name: &[u8], line: &[u8], at: usize) -> Ask {
 fn read_bare(name: &[u8]) -> Ask {
     if check::same(name, b"next_completion_delay") {
         return Ask::Make(Call::NextCompletionDelay);
+    }
+    if check::same(name, b"settle") {
+        return Ask::Make(Call::Settle);
     }
     if check::same(name, b"new") {
         return Ask::New;

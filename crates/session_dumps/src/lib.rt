@@ -68,10 +68,13 @@ fn sizes(page: &mut [u8; 65536], at: usize, flows: Flows) -> usize
     ensures { λ r. ⌜ r ≤ 49600 ⌝ }
 {
     let totals = flows.totals;
+    let clock = flows.clock;
     let next = named(page, at, b" edges", flows.num_edges as u64);
     let next = named(page, next, b" flight", flows::num_in_flight(flows) as u64);
     let next = named(page, next, b" queued", flows.num_completed as u64);
     let next = named(page, next, b" peak", totals.peak_in_flight as u64);
+    let next = put_text(page, next, b" drained");
+    let next = spaced_double(page, next, clock.last_drain);
     put_text(page, next, b"\n")
 }
 

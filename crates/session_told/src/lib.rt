@@ -11,6 +11,7 @@ use rules::Edge;
 use rules::EdgeRead;
 use rules::Flows;
 use rules::Said;
+use rules::TimeLeft;
 use session_asked::Look;
 use session_dumps::dump;
 use session_fields::named;
@@ -34,6 +35,7 @@ pub fn said(said: Said, width: usize, lent: &[u32], page: &mut [u8; 65536], at: 
     match said {
         Said::Answered(given) => answer(given, width, lent, page, at),
         Said::Edge(read) => edge_read(page, at, read),
+        Said::TimeLeft(left) => time_left(page, at, left),
         Said::Truth(yes) => truth(page, at, yes),
         Said::Number(n) => numbered(page, at, b"number", n as u64),
     }
@@ -47,6 +49,44 @@ fn edge_read(page: &mut [u8; 65536], at: usize, read: EdgeRead) -> usize
         EdgeRead::Found(edge) => edge_line(page, at, edge),
         EdgeRead::Refused(n) => numbered(page, at, b"refused", n as u64),
     }
+}
+
+// The time left, with a word on whether that is of now; the remark on a time comes last.
+fn time_left(page: &mut [u8; 65536], at: usize, left: TimeLeft) -> usize
+    requires { ⌜ at ≤ 49152 ⌝ }
+    ensures { λ r. ⌜ r ≤ 65536 ⌝ }
+{
+    let answer = left.answer;
+    let Answer::Value(x) = answer else {
+        let next = no_time(page, at, answer);
+        let next = whether_of_now(page, next, left.behind);
+        return put_text(page, next, b"\n");
+    };
+    let next = put_text(page, at, b"value ");
+    let next = put_double(page, next, x);
+    let next = whether_of_now(page, next, left.behind);
+    let next = remark(page, next, x);
+    put_text(page, next, b"\n")
+}
+
+fn no_time(page: &mut [u8; 65536], at: usize, answer: Answer) -> usize
+    requires { ⌜ at ≤ 49152 ⌝ }
+    ensures { λ r. ⌜ r ≤ 49200 ⌝ }
+{
+    match answer {
+        Answer::CannotFinish => put_text(page, at, b"cannot_finish"),
+        _ => put_text(page, at, b"unknown"),
+    }
+}
+
+fn whether_of_now(page: &mut [u8; 65536], at: usize, behind: bool) -> usize
+    requires { ⌜ at ≤ 49200 ⌝ }
+    ensures { λ r. ⌜ r ≤ 49300 ⌝ }
+{
+    if behind {
+        return put_text(page, at, b" behind");
+    }
+    put_text(page, at, b" current")
 }
 
 fn truth(page: &mut [u8; 65536], at: usize, yes: bool) -> usize
@@ -163,7 +203,8 @@ pub fn width(call: Call) -> usize
         Call::OwnersWithCompletions => 2,
         Call::NextCompletionDelay => 0,
         Call::EstimateNew(_) => 0,
-        Call::EstimateRemaining(_) => 0,
+        Call::Settle => 0,
+        Call::Remaining(_) => 0,
         Call::MeanInFlight(_, _) => 0,
         Call::Rate(_) => 0,
         Call::Edge(_) => 0,

@@ -20,7 +20,8 @@ enum Kind {
     Rate,
     EstimateNew,
     EstimateNewCapped,
-    EstimateRemaining,
+    Settle,
+    Remaining,
     Advance,
     Cancel,
     OwnersWithCompletions,
@@ -53,7 +54,7 @@ fn main() {
     let mut flows = Flows::new();
     let mut counts = none();
     let mut n: u32 = 0;
-    while n < 2700 {
+    while n < 2800 {
         let kind = nth(n / 100);
         let made = called(flows, kind, n % 100, &mut lent);
         let answer = made.answer;
@@ -86,7 +87,7 @@ fn called(flows: Flows, kind: Kind, i: u32, lent: &mut [u32; 768]) -> Outcome
         Kind::TakeCompleted => flows::take_completed(flows, Owner::Worker(i), lent),
         Kind::NextCompletionDelay => flows::next_completion_delay(flows),
         Kind::Rate => flows::rate(flows, 2 * i),
-        Kind::EstimateRemaining => flows::estimate_remaining(flows, i),
+        Kind::Settle => flows::settle(flows),
         _ => Outcome {
             answer: asked(flows, kind, i, lent),
             flows,
@@ -138,6 +139,7 @@ fn asked(flows: Flows, kind: Kind, i: u32, lent: &mut [u32; 768]) -> Answer
             let path = [i % 64];
             flows::estimate_new_capped(flows, &path, x, 0.5, Cap::AtMost(x))
         }
+        Kind::Remaining => remaining(flows, i),
         Kind::MeanInFlight => flows::mean_in_flight(flows, i % 64, x),
         Kind::OwnersWithCompletions => flows::owners_with_completions(flows, lent),
         Kind::Edge => edge(flows, i % 64),
@@ -145,6 +147,11 @@ fn asked(flows: Flows, kind: Kind, i: u32, lent: &mut [u32; 768]) -> Answer
         Kind::Now => Answer::Value(flows::now(flows)),
         _ => number_of(flows, kind),
     }
+}
+
+fn remaining(flows: Flows, id: u32) -> Answer {
+    let left = flows::remaining(flows, id);
+    left.answer
 }
 
 fn edge(flows: Flows, number: u32) -> Answer
@@ -253,24 +260,25 @@ fn nth(n: u32) -> Kind {
         5 => Kind::Rate,
         6 => Kind::EstimateNew,
         7 => Kind::EstimateNewCapped,
-        8 => Kind::EstimateRemaining,
-        9 => Kind::Advance,
-        10 => Kind::Cancel,
-        11 => Kind::OwnersWithCompletions,
-        12 => Kind::TakeCompleted,
-        13 => Kind::MeanInFlight,
-        14 => Kind::Edge,
-        15 => Kind::Contains,
-        16 => Kind::Now,
-        17 => Kind::Rounds,
-        18 => Kind::NumEdges,
-        19 => Kind::NumInFlight,
-        20 => Kind::NumUncollected,
-        21 => Kind::PeakInFlight,
-        22 => Kind::Totals,
-        23 => Kind::SubmittedCounts,
-        24 => Kind::CompletedCounts,
-        25 => Kind::CancelledCounts,
+        8 => Kind::Settle,
+        9 => Kind::Remaining,
+        10 => Kind::Advance,
+        11 => Kind::Cancel,
+        12 => Kind::OwnersWithCompletions,
+        13 => Kind::TakeCompleted,
+        14 => Kind::MeanInFlight,
+        15 => Kind::Edge,
+        16 => Kind::Contains,
+        17 => Kind::Now,
+        18 => Kind::Rounds,
+        19 => Kind::NumEdges,
+        20 => Kind::NumInFlight,
+        21 => Kind::NumUncollected,
+        22 => Kind::PeakInFlight,
+        23 => Kind::Totals,
+        24 => Kind::SubmittedCounts,
+        25 => Kind::CompletedCounts,
+        26 => Kind::CancelledCounts,
         _ => Kind::BytesSubmitted,
     }
 }
@@ -286,7 +294,8 @@ fn name(kind: Kind) -> bool {
         Kind::Rate => io::write_all(1, b"rate"),
         Kind::EstimateNew => io::write_all(1, b"estimate_new"),
         Kind::EstimateNewCapped => io::write_all(1, b"estimate_new_capped"),
-        Kind::EstimateRemaining => io::write_all(1, b"estimate_remaining"),
+        Kind::Settle => io::write_all(1, b"settle"),
+        Kind::Remaining => io::write_all(1, b"remaining"),
         _ => name_after_estimates(kind),
     }
 }

@@ -2,7 +2,7 @@
 use borrow.Author.Needs.{needs}
 use mathlib.Core.Path.{_≡_, ap, _∙_}
 use Rattle.rules.specs.Clock.{ensure-rates, settled}
-use Rattle.advance.proofs.Arrived.{settled-at}
+use Rattle.keeps.proofs.Draining.{settled-at-clock}
 use Rattle.advance.proofs.settled.Statement.{statement}
 use Rattle.advance.proofs.settled.Tie as tie
 
@@ -16,7 +16,7 @@ returns : tie.Need-returns
 returns c =
     let args = c .before .before .args in
     let e : c .ensure-rates .result ≡ settled (args .until) (args .flows) = c .ensure-rates .ensures .0 ∙ ap ensure-rates (c .before .drain-to .ensures .0) in
-    (e, (c .ensure-rates .ensures .1, rw e (settled-at (c .before .before .pre .0) (c .before .before .pre .1 .0) (c .before .before .pre .1 .1))))
+    (e, (c .ensure-rates .ensures .1, rw e (settled-at-clock (c .before .before .pre .0) (c .before .before .pre .1 .0) (c .before .before .pre .1 .1))))
 
 pub settled-spec : {M : Type 1} → statement M
 settled-spec = tie.close (tie.spec drain-to-requires ensure-rates-requires returns)

@@ -1,5 +1,5 @@
 -- `still` lets time pass under the loads of the last filling, which are right while rates are up to date. Assumes nothing.
-use Rattle.advance.proofs.Arrived.{fresh-load}
+use Rattle.advance.proofs.Loads.{fresh-load}
 use Rattle.advance.proofs.still.Statement.{statement}
 use Rattle.advance.proofs.still.Tie as tie
 

@@ -81,14 +81,23 @@ enum-known-call-7 c = search needs
 estimate-requires : tie.Need-estimate-requires
 estimate-requires c κs = search needs
 
-enum-known-call-8 : tie.Need-enum-known-call-8
-enum-known-call-8 c = search needs
+enum-told-3 : tie.Need-enum-told-3
+enum-told-3 c = search needs
 
-estimate-remaining-requires : tie.Need-estimate-remaining-requires
-estimate-remaining-requires c κs = search needs
+settle-requires : tie.Need-settle-requires
+settle-requires c κs = search needs
 
 changing-requires-7 : tie.Need-changing-requires-7
 changing-requires-7 c κs = search needs
+
+enum-known-call-8 : tie.Need-enum-known-call-8
+enum-known-call-8 c = search needs
+
+remaining-requires : tie.Need-remaining-requires
+remaining-requires c κs = search needs
+
+asking-requires-2 : tie.Need-asking-requires-2
+asking-requires-2 c κs = search needs
 
 enum-known-call-9 : tie.Need-enum-known-call-9
 enum-known-call-9 c = search needs
@@ -96,8 +105,8 @@ enum-known-call-9 c = search needs
 mean-in-flight-requires : tie.Need-mean-in-flight-requires
 mean-in-flight-requires c κs = search needs
 
-asking-requires-2 : tie.Need-asking-requires-2
-asking-requires-2 c κs = search needs
+asking-requires-3 : tie.Need-asking-requires-3
+asking-requires-3 c κs = search needs
 
 enum-known-call-10 : tie.Need-enum-known-call-10
 enum-known-call-10 c = search needs
@@ -114,8 +123,8 @@ enum-known-call-11 c = search needs
 edge-requires : tie.Need-edge-requires
 edge-requires c κs = search needs
 
-asking-requires-3 : tie.Need-asking-requires-3
-asking-requires-3 c κs = search needs
+asking-requires-4 : tie.Need-asking-requires-4
+asking-requires-4 c κs = search needs
 
 enum-known-call-12 : tie.Need-enum-known-call-12
 enum-known-call-12 c = search needs
@@ -123,17 +132,17 @@ enum-known-call-12 c = search needs
 contains-requires : tie.Need-contains-requires
 contains-requires c κs = search needs
 
-asking-requires-4 : tie.Need-asking-requires-4
-asking-requires-4 c κs = search needs
+asking-requires-5 : tie.Need-asking-requires-5
+asking-requires-5 c κs = search needs
 
-enum-told-3 : tie.Need-enum-told-3
-enum-told-3 c = search needs
+enum-told-4 : tie.Need-enum-told-4
+enum-told-4 c = search needs
 
 rounds-requires : tie.Need-rounds-requires
 rounds-requires c κs = search needs
 
-asking-requires-5 : tie.Need-asking-requires-5
-asking-requires-5 c κs = search needs
+asking-requires-6 : tie.Need-asking-requires-6
+asking-requires-6 c κs = search needs
 
 same-length : tie.Need-same-length
 same-length c = search needs
@@ -205,38 +214,44 @@ returns-9 c =
 returns-10 : tie.Need-returns-10
 unfolding call
 returns-10 c =
-    let is = c .before .before .before .call8 .given .1 in
-    (rw (is, c .changing7 .ensures, c .before .estimate-remaining .ensures .0) refl, (rw is refl, rw (c .changing7 .ensures) (c .before .estimate-remaining .ensures .1)))
+    let is = c .before .before .enum-told3 .given .1 in
+    (rw (is, c .changing7 .ensures, c .before .settle .ensures .0) refl, (rw is refl, rw (c .changing7 .ensures) (c .before .settle .ensures .1)))
 
 returns-11 : tie.Need-returns-11
 unfolding call
 returns-11 c =
-    let is = c .before .before .before .call9 .given .1 in
-    (rw (is, c .asking2 .ensures, c .before .mean-in-flight .ensures) refl, (rw is refl, rw (c .asking2 .ensures) (c .before .before .before .before .before .before .before .pre)))
+    let is = c .before .before .before .call8 .given .1 in
+    (rw (is, c .asking2 .ensures, c .before .remaining .ensures) refl, (rw is refl, rw (c .asking2 .ensures) (c .before .before .before .before .before .before .before .pre)))
 
 returns-12 : tie.Need-returns-12
 unfolding call
 returns-12 c =
-    let is = c .before .before .before .call10 .given .1 in
-    (rw (is, c .changing8 .ensures, c .before .rate .ensures .0) refl, (rw is refl, rw (c .changing8 .ensures) (c .before .rate .ensures .1)))
+    let is = c .before .before .before .call9 .given .1 in
+    (rw (is, c .asking3 .ensures, c .before .mean-in-flight .ensures) refl, (rw is refl, rw (c .asking3 .ensures) (c .before .before .before .before .before .before .before .pre)))
 
 returns-13 : tie.Need-returns-13
 unfolding call
 returns-13 c =
-    let is = c .before .before .before .call11 .given .1 in
-    (rw (is, c .asking3 .ensures, c .before .edge .ensures) refl, (rw is refl, rw (c .asking3 .ensures) (c .before .before .before .before .before .before .before .pre)))
+    let is = c .before .before .before .call10 .given .1 in
+    (rw (is, c .changing8 .ensures, c .before .rate .ensures .0) refl, (rw is refl, rw (c .changing8 .ensures) (c .before .rate .ensures .1)))
 
 returns-14 : tie.Need-returns-14
 unfolding call
 returns-14 c =
-    let is = c .before .before .before .call12 .given .1 in
-    (rw (is, c .asking4 .ensures, c .before .contains .ensures) refl, (rw is refl, rw (c .asking4 .ensures) (c .before .before .before .before .before .before .before .pre)))
+    let is = c .before .before .before .call11 .given .1 in
+    (rw (is, c .asking4 .ensures, c .before .edge .ensures) refl, (rw is refl, rw (c .asking4 .ensures) (c .before .before .before .before .before .before .before .pre)))
 
 returns-15 : tie.Need-returns-15
 unfolding call
 returns-15 c =
-    let is = c .before .before .enum-told3 .given .1 in
-    (rw (is, c .asking5 .ensures, c .before .rounds .ensures) refl, (rw is refl, rw (c .asking5 .ensures) (c .before .before .before .before .before .before .pre)))
+    let is = c .before .before .before .call12 .given .1 in
+    (rw (is, c .asking5 .ensures, c .before .contains .ensures) refl, (rw is refl, rw (c .asking5 .ensures) (c .before .before .before .before .before .before .before .pre)))
+
+returns-16 : tie.Need-returns-16
+unfolding call
+returns-16 c =
+    let is = c .before .before .enum-told4 .given .1 in
+    (rw (is, c .asking6 .ensures, c .before .rounds .ensures) refl, (rw is refl, rw (c .asking6 .ensures) (c .before .before .before .before .before .before .pre)))
 
 pub make-spec : {M : Type 1} → statement M
 make-spec =
@@ -267,24 +282,27 @@ make-spec =
     changing-requires-6
     enum-known-call-7
     estimate-requires
-    enum-known-call-8
-    estimate-remaining-requires
+    enum-told-3
+    settle-requires
     changing-requires-7
+    enum-known-call-8
+    remaining-requires
+    asking-requires-2
     enum-known-call-9
     mean-in-flight-requires
-    asking-requires-2
+    asking-requires-3
     enum-known-call-10
     rate-requires
     changing-requires-8
     enum-known-call-11
     edge-requires
-    asking-requires-3
+    asking-requires-4
     enum-known-call-12
     contains-requires
-    asking-requires-4
-    enum-told-3
-    rounds-requires
     asking-requires-5
+    enum-told-4
+    rounds-requires
+    asking-requires-6
     same-length
     returns
     returns-2
@@ -302,4 +320,5 @@ make-spec =
     returns-12
     returns-13
     returns-14
-    returns-15)
+    returns-15
+    returns-16)

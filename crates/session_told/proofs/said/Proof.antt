@@ -20,11 +20,17 @@ edge-read-requires c κs = search needs
 enum-known-said-3 : tie.Need-enum-known-said-3
 enum-known-said-3 c = search needs
 
-truth-requires : tie.Need-truth-requires
-truth-requires c κs = search needs
+time-left-requires : tie.Need-time-left-requires
+time-left-requires c κs = search needs
 
 enum-known-said-4 : tie.Need-enum-known-said-4
 enum-known-said-4 c = search needs
+
+truth-requires : tie.Need-truth-requires
+truth-requires c κs = search needs
+
+enum-known-said-5 : tie.Need-enum-known-said-5
+enum-known-said-5 c = search needs
 
 slice-aggregate-numbered : tie.Need-slice-aggregate-numbered
 slice-aggregate-numbered c = search needs
@@ -44,6 +50,9 @@ returns-3 c = search needs
 returns-4 : tie.Need-returns-4
 returns-4 c = search needs
 
+returns-5 : tie.Need-returns-5
+returns-5 c = search needs
+
 pub said-spec : {M : Type 1} → statement M
 said-spec =
     tie.close
@@ -53,11 +62,14 @@ said-spec =
     enum-known-said-2
     edge-read-requires
     enum-known-said-3
-    truth-requires
+    time-left-requires
     enum-known-said-4
+    truth-requires
+    enum-known-said-5
     slice-aggregate-numbered
     numbered-requires
     returns
     returns-2
     returns-3
-    returns-4)
+    returns-4
+    returns-5)

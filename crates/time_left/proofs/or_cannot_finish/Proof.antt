@@ -1,8 +1,8 @@
 -- `or_cannot_finish` is the definition, case by case. Assumes nothing.
 use borrow.Author.Needs.{needs}
-use Rattle.rules.specs.Questions.{or-cannot-finish}
-use Rattle.estimates.proofs.or_cannot_finish.Statement.{statement}
-use Rattle.estimates.proofs.or_cannot_finish.Tie as tie
+use Rattle.rules.specs.TimeLeft.{or-cannot-finish}
+use Rattle.time_left.proofs.or_cannot_finish.Statement.{statement}
+use Rattle.time_left.proofs.or_cannot_finish.Tie as tie
 
 enum-known-d : tie.Need-enum-known-d
 enum-known-d c = search needs

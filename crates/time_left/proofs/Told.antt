@@ -16,7 +16,7 @@ use Rattle.rules.specs.declared.Answer.the-variants.{Done, Added, Listed, Nothi
 use Rattle.rules.specs.declared.Flows.{Flows}
 use Rattle.rules.specs.Records.{free, contains}
 use Rattle.rules.specs.Done.{done-eps, is-done, time-to-done}
-use Rattle.rules.specs.Questions.{or-cannot-finish, remaining, estimate-remaining}
+use Rattle.rules.specs.TimeLeft.{or-cannot-finish, remaining-in, remaining}
 use Rattle.rules.specs.Told.{told-answer}
 use Rattle.rules.specs.Invariant.{Invariant}
 use Rattle.rules.specs.Promises.{InFlight, TellsTimeLeft, TimeLeftTold}
@@ -24,8 +24,7 @@ use Rattle.slots.specs.declared.Lookup.{Lookup}
 use Rattle.slots.specs.declared.Lookup.the-variants.{Slot, Nowhere}
 use Rattle.slots.specs.Lookup.{lookup}
 use Rattle.slots.proofs.Found.{Missing, Found, nowhere, somewhere, holds-id, one-slot}
-use Rattle.keeps.proofs.Calls.{estimate-remaining-keeps}
-use Rattle.estimates.proofs.Times.{not-nought, eps-plain, eps-above, Stalled, Time, now, later, never, time-is}
+use Rattle.time_left.proofs.Times.{not-nought, eps-plain, eps-above, Stalled, Time, now, later, never, time-is}
 
 -- ---- answers told apart
 which : Answer → ℕ
@@ -136,14 +135,14 @@ module _ {f : Flows} (inv : Invariant f) (id : ℕ) where
       stalled = Iff·trans (told .stalled) here;
     }
 
-  remaining-told : TellsTimeLeft id f (remaining id (done-eps f) (f .«in_flight»))
-  unfolding remaining
+  remaining-told : TellsTimeLeft id f (remaining-in id (done-eps f) (f .«in_flight»))
+  unfolding remaining-in
   remaining-told = go (lookup id (f .«in_flight»)) refl
     where
-      go : (l : Lookup) → lookup id (f .«in_flight») ≡ l → TellsTimeLeft id f (remaining id (done-eps f) (f .«in_flight»))
+      go : (l : Lookup) → lookup id (f .«in_flight») ≡ l → TellsTimeLeft id f (remaining-in id (done-eps f) (f .«in_flight»))
       go Nowhere e = let m = nowhere id (f .«in_flight») e in subst (TellsTimeLeft id f) (sym (m .of-none Unknown _)) (missing m)
       go (Slot i) e = let w = somewhere id (f .«in_flight») i e in subst (TellsTimeLeft id f) (sym (w .of-some Unknown _)) (in-flight i w)
 
 pub time-left-told : TimeLeftTold
-unfolding estimate-remaining
-time-left-told id f inv = remaining-told (estimate-remaining-keeps id f inv) id
+unfolding remaining
+time-left-told id f inv = remaining-told inv id
