@@ -56,7 +56,12 @@ pub trait Simulator {
     fn owners_with_completions(&self) -> Vec<Party>;
     fn next_completion_delay(&mut self) -> Option<Double>;
     fn estimate_new(&self, path: &[usize], bytes: Double, latency: Double, cap: Option<Double>) -> Double;
+    /// The Rust's own question, which drains and fills first; 0 of an unknown id and of one that can't finish.
     fn estimate_remaining(&mut self, id: u32) -> Double;
+    /// Drains to the clock and brings rates up to date: the Rust's own question of a name that nobody has.
+    fn settle(&mut self);
+    /// How long a transfer takes by the state as it stands, with eps at the clock: none for an unknown id, and no time for one that can't finish.
+    fn time_left(&self, id: u32) -> Option<Option<Double>>;
     /// Brings rates up to date and reads one.
     fn rate(&mut self, id: u32) -> Option<Double>;
     fn mean_in_flight(&self, edge: usize, until: Double) -> Double;
@@ -64,6 +69,8 @@ pub trait Simulator {
     fn now(&self) -> Double;
     fn stale(&self) -> bool;
     fn next_done(&self) -> Option<Double>;
+    /// When everybody was last drained. The patched copies record it; as given it is read off whoever is in flight, and where nobody is there is none.
+    fn last_drain(&self) -> Option<Double>;
     /// Rounds of the last filling; only the patched copies count them.
     fn rounds(&self) -> Option<u64>;
     fn edges(&self) -> usize;

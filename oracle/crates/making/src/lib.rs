@@ -91,6 +91,22 @@ pub fn count_rounds(text: &str) -> Result<String, String> {
     substitute(&text, round, &format!("{round}            self.rounds += 1;\n"))
 }
 
+/// Adds the time of the last drain: a field, 0 at first, that every drain sets, with somebody in flight or nobody.
+pub fn record_drains(text: &str) -> Result<String, String> {
+    let field = "pub struct Flows {\n";
+    let drain = "        if now < self.now {\n            return;\n        }\n";
+    let text = substitute(text, field, &format!("{field}    last_drain: f64,\n"))?;
+    substitute(&text, drain, &format!("{drain}        self.last_drain = now;\n"))
+}
+
+/// Ends the program with a message where the recorded time is read and some transfer in flight was last drained at another. Stands among the accessors.
+pub fn mark_drains(accessors: &str) -> Result<String, String> {
+    let read = "fn last_drain_of(flows: &Flows) -> Option<Double> {\n";
+    let told = "\"somebody in flight was not drained when the others were\"";
+    let alike = format!("    assert!(flows.in_flight.values().all(|t| t.last_update == flows.last_drain), {told});\n");
+    substitute(accessors, read, &format!("{read}{alike}"))
+}
+
 /// Ends the program with a message where a branch would be taken that the port has left out: a round in which no edge has load, a load table
 /// of another length than the edge table while rates are not stale.
 pub fn mark_unreachable(text: &str) -> Result<String, String> {
@@ -196,6 +212,24 @@ mod tests {
         let lines: Vec<&str> = marked.lines().map(str::trim).collect();
         assert!(lines[1].starts_with("assert!(best.is_some()") && lines[3].starts_with("assert!(self.rates_dirty ||"));
         assert!(mark_unreachable("another flows.rs").is_err());
+    }
+
+    #[test]
+    fn a_drain_is_recorded_behind_its_early_return() {
+        let text = "pub struct Flows {\n    now: f64,\n}\n        if now < self.now {\n            return;\n        }\n        if now > self.now {\n";
+        let recorded = record_drains(text).unwrap();
+        let lines: Vec<&str> = recorded.lines().map(str::trim).collect();
+        assert_eq!(lines[..3], ["pub struct Flows {", "last_drain: f64,", "now: f64,"]);
+        assert_eq!(lines[5..], ["return;", "}", "self.last_drain = now;", "if now > self.now {"]);
+        assert!(record_drains("another flows.rs").is_err());
+    }
+
+    #[test]
+    fn the_recorded_time_is_held_against_the_transfers_where_it_is_read() {
+        let marked = mark_drains("fn last_drain_of(flows: &Flows) -> Option<Double> {\n    Some(outward(flows.last_drain))\n").unwrap();
+        let lines: Vec<&str> = marked.lines().map(str::trim).collect();
+        assert!(lines[1].starts_with("assert!(flows.in_flight.values().all(") && lines[2].starts_with("Some("));
+        assert!(mark_drains("fn last_drain_of(_: &Flows)").is_err());
     }
 
     #[test]
