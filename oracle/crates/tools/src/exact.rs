@@ -87,7 +87,7 @@ mod tests {
         let after = |calls: &[&str]| admitted(&[&start, calls].concat())[start.len()..].to_vec();
         assert_eq!(after(&["widen 0 1", "now"]), [false, false]);
         assert_eq!(after(&["cancel 2", "widen 7 1", "cancel 1"]), [true, true, false]);
-        assert_eq!(after(&["estimate_remaining 1", "add_edge 3"]), [true, true]);
+        assert_eq!(after(&["remaining 1", "settle", "remaining 1", "add_edge 3"]), [true, true, true, true]);
         assert_eq!(after(&["advance 10 768", "advance 12 768", "add_edge 3"]), [true, true, true]);
     }
 

@@ -59,7 +59,8 @@ enum Kind {
     Owners,
     Delay,
     EstimateNew,
-    EstimateRemaining,
+    Settle,
+    Remaining,
     Mean,
     Rate,
     Rounds,
@@ -72,7 +73,7 @@ enum Kind {
     Finish,
 }
 
-const KINDS: [Kind; 20] = [
+const KINDS: [Kind; 21] = [
     Kind::Submit,
     Kind::Advance,
     Kind::Cancel,
@@ -82,7 +83,8 @@ const KINDS: [Kind; 20] = [
     Kind::Owners,
     Kind::Delay,
     Kind::EstimateNew,
-    Kind::EstimateRemaining,
+    Kind::Settle,
+    Kind::Remaining,
     Kind::Mean,
     Kind::Rate,
     Kind::Rounds,
@@ -95,11 +97,11 @@ const KINDS: [Kind; 20] = [
     Kind::Finish,
 ];
 
-const USUAL: [usize; 20] = [44, 40, 10, 6, 4, 8, 5, 14, 10, 9, 5, 11, 7, 4, 3, 7, 5, 4, 8, 1];
+const USUAL: [usize; 21] = [44, 40, 10, 6, 4, 8, 5, 14, 10, 5, 9, 5, 11, 7, 4, 3, 7, 5, 4, 8, 1];
 /// More submissions than completions.
-const BUSY: [usize; 20] = [90, 30, 10, 6, 4, 8, 5, 12, 10, 9, 5, 11, 7, 4, 3, 7, 5, 4, 8, 2];
+const BUSY: [usize; 21] = [90, 30, 10, 6, 4, 8, 5, 12, 10, 5, 9, 5, 11, 7, 4, 3, 7, 5, 4, 8, 2];
 /// Many submissions, few completions, and dumps seldom, for they are long; a crowd that is finished is none.
-const CROWDED: [usize; 20] = [400, 60, 12, 4, 4, 10, 8, 16, 12, 8, 5, 14, 8, 8, 4, 8, 6, 2, 10, 0];
+const CROWDED: [usize; 21] = [400, 60, 12, 4, 4, 10, 8, 16, 12, 6, 8, 5, 14, 8, 8, 4, 8, 6, 2, 10, 0];
 
 /// Small numbers, and beside them numbers with many divisors: more of their shares come out whole.
 const WHOLE_CAPACITIES: [&[f64]; 2] = [
@@ -205,9 +207,9 @@ impl Generator {
         }
         // So many steps of a hundred are some lines aimed at one place.
         let aimed = match self.profile {
-            Profile::Whole => 2,
-            Profile::Wrong => 10,
-            _ => 5,
+            Profile::Whole => 3,
+            Profile::Wrong => 16,
+            _ => 8,
         };
         if self.random.chance(aimed) {
             return self.aim();
@@ -264,7 +266,8 @@ impl Generator {
                 let (bytes, latency) = (self.estimated_bytes(), self.latency());
                 Call::EstimateNew { bytes, latency, cap: self.cap(), path: self.path() }
             }
-            Kind::EstimateRemaining => Call::EstimateRemaining { id: self.known_id() },
+            Kind::Settle => Call::Settle,
+            Kind::Remaining => Call::Remaining { id: self.known_id() },
             Kind::Mean => Call::MeanInFlight { edge: self.edge(), until: self.until() },
             Kind::Rate => Call::Rate { id: self.known_id() },
             Kind::Rounds => Call::Rounds,
@@ -550,7 +553,7 @@ impl Generator {
     fn wrong_line(&mut self) -> String {
         let kind = KINDS[self.random.weighted(&USUAL)];
         // A call without arguments can only be misspelt.
-        let bare = matches!(kind, Kind::Delay | Kind::Rounds | Kind::Now | Kind::Counts | Kind::Dump | Kind::Finish);
+        let bare = matches!(kind, Kind::Delay | Kind::Settle | Kind::Rounds | Kind::Now | Kind::Counts | Kind::Dump | Kind::Finish);
         if bare || self.random.chance(5) {
             return self.malformed();
         }
@@ -602,7 +605,7 @@ impl Generator {
                 _ => *until = bad,
             },
             Call::Edge { edge } => *edge = absent,
-            Call::Cancel { id } | Call::Rate { id } | Call::EstimateRemaining { id } | Call::Contains { id } => *id = 777,
+            Call::Cancel { id } | Call::Rate { id } | Call::Remaining { id } | Call::Contains { id } => *id = 777,
             Call::TakeCompleted { places, .. } | Call::OwnersWithCompletions { places } => *places = self.random.below(2),
             _ => {}
         }

@@ -23,7 +23,8 @@ pub enum Call {
     OwnersWithCompletions { places: usize },
     NextCompletionDelay,
     EstimateNew { bytes: f64, latency: f64, cap: Option<f64>, path: Vec<u32> },
-    EstimateRemaining { id: u32 },
+    Settle,
+    Remaining { id: u32 },
     MeanInFlight { edge: u32, until: f64 },
     Rate { id: u32 },
     Rounds,
@@ -122,7 +123,8 @@ impl<'a> Words<'a> {
                 cap: self.cap()?,
                 path: self.path()?,
             },
-            "estimate_remaining" => Call::EstimateRemaining { id: self.number()? },
+            "settle" => Call::Settle,
+            "remaining" => Call::Remaining { id: self.number()? },
             "mean_in_flight" => Call::MeanInFlight { edge: self.number()?, until: self.double()? },
             "rate" => Call::Rate { id: self.number()? },
             "rounds" => Call::Rounds,
@@ -271,7 +273,8 @@ impl fmt::Display for Call {
             Call::EstimateNew { bytes, latency, cap, path } => {
                 write!(f, "estimate_new {} {} {} {}", double(bytes), double(latency), write_cap(*cap), write_path(path))
             }
-            Call::EstimateRemaining { id } => write!(f, "estimate_remaining {id}"),
+            Call::Settle => write!(f, "settle"),
+            Call::Remaining { id } => write!(f, "remaining {id}"),
             Call::MeanInFlight { edge, until } => write!(f, "mean_in_flight {edge} {}", double(until)),
             Call::Rate { id } => write!(f, "rate {id}"),
             Call::Rounds => write!(f, "rounds"),
@@ -301,12 +304,13 @@ mod tests {
 
     #[test]
     fn a_call_is_read_back_as_written() {
-        for line in ["submit 1 0 7 100 0.25 - 3 2 0 1", "advance 4014000000000001 768", "widen 0 -1", "new", "dump", "run_until 2.5", "finish"] {
+        let lines = ["submit 1 0 7 100 0.25 - 3 2 0 1", "advance 4014000000000001 768", "widen 0 -1", "new", "dump", "run_until 2.5", "finish"];
+        for line in lines.into_iter().chain(["settle", "remaining 4294967295"]) {
             let Line::Call(call) = read_line(line) else { panic!("{line}") };
             assert_eq!(call.to_string(), line);
         }
         assert!(matches!(read_line("  # only a remark"), Line::Blank));
-        for line in ["now 1", "run_until", "run_until 1 768", "run_until -", "finish 1"] {
+        for line in ["now 1", "run_until", "run_until 1 768", "run_until -", "finish 1", "settle 1", "remaining", "remaining 1 1", "estimate_remaining 1"] {
             assert!(matches!(read_line(line), Line::Malformed), "{line}");
         }
     }

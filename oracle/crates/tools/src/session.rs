@@ -4,7 +4,6 @@
 //! that holds is the answer. Everything that is computed comes from the copy.
 
 use crate::script::{hex, kind, lines, read_line, worker, write_path, Call, Line};
-use crate::tolerances::B;
 use copies::{Party, Simulator, Submission};
 use std::io::{BufRead, Write};
 
@@ -25,7 +24,7 @@ pub struct Session {
     pub sim: Box<dyn Simulator>,
     completed: [u64; 3],
     cancelled: [u64; 3],
-    /// Leaves slots and rounds out, for a copy that has none.
+    /// Leaves slots and rounds out, and the last drain where nobody is in flight, for a copy that has none.
     common: bool,
     /// More steps in one `run_until` or `finish` are a panic: a faulty copy may step on for ever.
     pub most_steps: usize,
@@ -132,7 +131,11 @@ impl Session {
                 let cap = cap.map(plus_zero);
                 value(self.sim.estimate_new(&numbers(path), plus_zero(*bytes), plus_zero(*latency), cap))
             }
-            Call::EstimateRemaining { id } => self.estimate_remaining(*id),
+            Call::Settle => {
+                self.sim.settle();
+                "done".to_string()
+            }
+            Call::Remaining { id } => self.remaining(*id),
             Call::MeanInFlight { edge, until } => value(self.sim.mean_in_flight(*edge as usize, plus_zero(*until))),
             Call::Rate { id } => self.sim.rate(*id).map_or("unknown".to_string(), value),
             Call::Rounds => format!("number {}", self.rounds()),
@@ -215,16 +218,34 @@ impl Session {
         "done".to_string()
     }
 
-    /// The Rust says 0 of a stranger, of a transfer that cannot finish and of one that is done; its state after the call tells which.
-    fn estimate_remaining(&mut self, id: u32) -> String {
-        let time = self.sim.estimate_remaining(id);
-        let other = match self.sim.transfers().into_iter().find(|t| t.id == id) {
-            None => "unknown",
-            Some(t) if t.bytes > B && t.rate == 0.0 => "cannot_finish",
-            Some(_) => return value(time),
+    /// The time by the state as it stands, and whether that state is the clock's.
+    fn remaining(&self, id: u32) -> String {
+        let left = self.sim.time_left(id);
+        let told = match left {
+            None => "unknown".to_string(),
+            Some(None) => "cannot_finish".to_string(),
+            Some(Some(time)) => value(time),
         };
-        assert!(time == 0.0, "the Rust has a time where {other} is said");
-        other.to_string()
+        let flag = self.flag();
+        if flag == "current" {
+            // The Rust's own question has nothing to drain or to fill then; it says 0 of an unknown id and of a transfer that can't finish.
+            let own = self.sim.copy().estimate_remaining(id);
+            assert!(own == left.flatten().unwrap_or(0.0), "the Rust says {} where {told} is told", hex(own));
+        }
+        format!("{told} {flag}")
+    }
+
+    fn flag(&self) -> &'static str {
+        match self.last_drain() {
+            None => "-",
+            Some(drained) if drained < self.sim.now() || self.sim.stale() => "behind",
+            Some(_) => "current",
+        }
+    }
+
+    /// In the common form none where nobody is in flight: there the Rust as given can't tell.
+    fn last_drain(&self) -> Option<f64> {
+        self.sim.last_drain().filter(|_| !self.common || self.sim.in_flight() > 0)
     }
 
     fn take_completed(&mut self, owner: Party, places: usize) -> String {
@@ -266,8 +287,9 @@ impl Session {
     fn dump(&self) -> String {
         let sim = &self.sim;
         let next = sim.next_done().map_or("-".to_string(), hex);
+        let drained = self.last_drain().map_or("-".to_string(), hex);
         let mut lines = vec![format!(
-            "dump clock {} stale {} next {next} rounds {} edges {} flight {} queued {} peak {}",
+            "dump clock {} stale {} next {next} rounds {} edges {} flight {} queued {} peak {} drained {drained}",
             hex(sim.now()),
             u8::from(sim.stale()),
             self.rounds(),
@@ -426,6 +448,85 @@ mod tests {
         }
         assert_eq!(after_two(&["advance 3 768", "run_until 2"]), "refused 2");
         assert_eq!(after_two(&["run_until 8000000000000000"]), "done");
+    }
+
+    /// The answers of patched to the last so many calls of a script, in its own form.
+    fn patched(script: &[&str], count: usize) -> Vec<String> {
+        let mut session = Session::new(copies::patched, false);
+        let answers: Vec<String> = script.iter().map(|line| session.answer_line(&read_line(line)).expect("a call")).collect();
+        answers[answers.len() - count..].to_vec()
+    }
+
+    /// A transfer of 100 bytes at 10 a second, its rate filled, and then some calls; the answers to these.
+    fn after_one(calls: &[&str]) -> Vec<String> {
+        let one = ["add_edge 10", "submit 1 0 0 100 0 - 0 1 0", "next_completion_delay"];
+        patched(&[&one, calls].concat(), calls.len())
+    }
+
+    fn left(time: f64, flag: &str) -> String {
+        format!("{} {flag}", value(time))
+    }
+
+    #[test]
+    fn a_fresh_simulator_was_drained_at_0() {
+        assert_eq!(patched(&["remaining 1", "advance 3 768", "remaining 1", "settle", "remaining 1"], 5)[0], "unknown current");
+        // Nothing is stale and nobody in flight, so the advance is quiet.
+        let said = patched(&["remaining 1", "advance 3 768", "remaining 1", "settle", "remaining 1"], 3);
+        assert_eq!(said, ["unknown behind", "done", "unknown current"]);
+        assert_eq!(patched(&["add_edge 1", "remaining 1"], 1), ["unknown behind"]);
+    }
+
+    #[test]
+    fn a_quiet_advance_leaves_the_time_as_it_was() {
+        let said = after_one(&["remaining 1", "advance 2 768", "remaining 1", "advance 4 768", "remaining 1", "remaining 2"]);
+        assert_eq!([&said[0], &said[2], &said[4]], [&left(10.0, "current"), &left(10.0, "behind"), &left(10.0, "behind")]);
+        assert_eq!(said[5], "unknown behind");
+    }
+
+    #[test]
+    fn settling_takes_the_time_off() {
+        let said = after_one(&["advance 2 768", "settle", "remaining 1", "remaining 2", "settle", "remaining 1"]);
+        assert_eq!(said[1..], ["done".to_string(), left(8.0, "current"), "unknown current".to_string(), "done".to_string(), left(8.0, "current")]);
+    }
+
+    #[test]
+    fn a_new_transfer_has_no_rate_before_a_filling() {
+        let said = after_one(&["submit 2 0 0 100 0 - 2 1 0", "remaining 2", "remaining 1", "submit 3 0 0 0 7 - 2 1 0", "remaining 3", "rate 1", "remaining 2"]);
+        assert_eq!(said[1], "cannot_finish behind");
+        // The older one was drained by the submission, and has the rate of when it was alone.
+        assert_eq!(said[2], left(8.0, "behind"));
+        assert_eq!(said[4], left(7.0, "behind"));
+        // The transfer without bytes holds no share, so 5 a second are left for each.
+        assert_eq!(said[6], left(20.0, "current"));
+    }
+
+    #[test]
+    fn a_question_leaves_the_state_as_it_was() {
+        for calls in [&["advance 2 768"][..], &["submit 2 0 0 8 0 - 2 1 0"], &["settle"], &["cancel 1"], &["advance 10 768"]] {
+            let said = after_one(&[calls, &["dump", "remaining 1", "remaining 2", "dump"]].concat());
+            assert_eq!(said[1], said[4], "{calls:?}");
+        }
+    }
+
+    #[test]
+    fn a_watched_run_is_the_unwatched_one() {
+        let plan = ["add_edge 3", "submit 1 0 0 10 0.1 - 0 1 0", "submit 2 0 0 7 0 0.7 0.3 1 0", "next_completion_delay", "advance 1.1 768", "widen 0 0.1", "finish", "dump"];
+        let watched: Vec<&str> = plan.iter().flat_map(|line| [*line, "remaining 1", "remaining 2"]).collect();
+        let said = patched(&watched, watched.len());
+        let others: Vec<&String> = said.iter().step_by(3).collect();
+        assert_eq!(others, patched(&plan, plan.len()).iter().collect::<Vec<_>>());
+    }
+
+    #[test]
+    fn the_common_form_tells_a_last_drain_where_somebody_is_in_flight() {
+        let drained = |calls: &[&str]| after_two(calls).lines().next().and_then(|line| line.split(' ').next_back().map(str::to_string)).expect("a dump");
+        assert_eq!(drained(&["next_completion_delay", "advance 3 768", "dump"]), hex(0.0));
+        assert_eq!(drained(&["next_completion_delay", "advance 3 768", "settle", "dump"]), hex(3.0));
+        assert_eq!(drained(&["finish", "dump"]), "-");
+        assert_eq!(after_two(&["settle", "remaining 1"]), left(20.0, "current"));
+        assert_eq!(after_two(&["settle", "advance 3 768", "remaining 9"]), "unknown behind");
+        assert_eq!(after_two(&["finish", "remaining 1"]), "unknown -");
+        assert_eq!(last(&["remaining 1"]), "unknown -");
     }
 
     #[test]

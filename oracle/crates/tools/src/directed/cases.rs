@@ -60,7 +60,7 @@ fn later_cases(b: &mut Book) {
     b.say("submit 0 0 0 5 0 0 0 0");
     b.expect("next_completion_delay", "never");
     b.expect("advance 7 768", "list 0 tail-kept");
-    b.expect("estimate_remaining 0", "cannot_finish");
+    b.settled(0, "cannot_finish");
     b.say("dump");
     b.begin("case 8: capacity 0");
     b.all(&["add_edge 0", "submit 0 0 0 5 0 - 0 1 0"]);

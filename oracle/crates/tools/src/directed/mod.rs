@@ -67,6 +67,12 @@ impl Book {
         assert_eq!(given, answer, "call {} of {}", self.lines.len() - begun, self.lines[begun.saturating_sub(1)]);
     }
 
+    /// The time left once all is drained and filled.
+    fn settled(&mut self, id: u32, answer: &str) {
+        self.expect("settle", "done");
+        self.expect(&format!("remaining {id}"), &format!("{answer} current"));
+    }
+
     fn all(&mut self, lines: &[&str]) {
         lines.iter().for_each(|line| drop(self.say(line)));
     }

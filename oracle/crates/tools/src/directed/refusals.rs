@@ -149,13 +149,16 @@ fn unknowns(b: &mut Book) {
     b.expect("take_completed 2 0 5", "nothing");
     b.expect("contains 77", "no");
     assert_eq!(b.state(), before);
-    // These two bring rates up to date all the same.
+    b.expect("remaining 77", "unknown behind");
+    assert_eq!(b.state(), before);
+    // This one brings rates up to date all the same.
     assert!(b.session.sim.stale());
     b.expect("rate 77", "unknown");
     assert!(!b.session.sim.stale());
     b.all(&["dump", "next_completion_delay", "advance 5 768", "dump"]);
+    b.expect("remaining 77", "unknown behind");
     let behind = b.transfer(1).last;
-    b.expect("estimate_remaining 77", "unknown");
-    assert!(b.transfer(1).last > behind, "the question drains");
+    b.settled(77, "unknown");
+    assert!(b.transfer(1).last > behind, "settling drains");
     b.say("dump");
 }

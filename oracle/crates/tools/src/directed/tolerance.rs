@@ -19,7 +19,7 @@ pub(super) fn bytes_left() -> Vec<String> {
         b.say(&format!("submit 2 0 0 1 0 - {} 1 0", hex(end_of_drain())));
         assert_eq!(b.transfer(1).bytes.to_bits(), target.to_bits(), "bytes left {name}");
         b.say("dump");
-        b.all(&["estimate_new 1 0 - 1 0", "rate 1", "rate 2", "rounds", "estimate_remaining 1", "next_completion_delay"]);
+        b.all(&["estimate_new 1 0 - 1 0", "rate 1", "rate 2", "rounds", "remaining 1", "settle", "remaining 1", "next_completion_delay"]);
         b.look();
         b.expect(&format!("advance {} 768", hex(end_of_drain())), done);
         b.say("dump");
@@ -58,7 +58,7 @@ pub(super) fn drain_time() -> Vec<String> {
             b.expect("rate 1", &value(capacity));
             assert_eq!(bytes as f64 / capacity, target);
             let remaining = if target <= eps { 0.0 } else { target };
-            b.expect("estimate_remaining 1", &value(remaining));
+            b.settled(1, &value(remaining));
             b.say("next_completion_delay");
             let done = if target <= eps { "list 1 0 0 1 tail-kept" } else { "list 0 tail-kept" };
             b.expect(&format!("advance {} 768", write_double(clock)), done);
@@ -93,7 +93,7 @@ pub(super) fn latency_left() -> Vec<String> {
                 false => ((clock + latency) - clock, "list 0 tail-kept"),
             };
             b.expect("next_completion_delay", &after(delay));
-            b.say("estimate_remaining 1");
+            b.settled(1, &value(if latency <= eps { 0.0 } else { latency }));
             b.expect(&format!("advance {at} 768"), done);
             b.say("dump");
         }
@@ -170,7 +170,7 @@ fn infinite_delay(b: &mut Book) {
     b.begin("an infinite delay");
     b.all(&["add_edge 0000000000000001", "submit 1 0 0 9007199254740992 0 - 0 1 0"]);
     b.expect("next_completion_delay", &after(f64::INFINITY));
-    b.expect("estimate_remaining 1", &value(f64::INFINITY));
+    b.settled(1, &value(f64::INFINITY));
     b.expect("advance 1099511627776 768", "list 0 tail-kept");
     b.expect("next_completion_delay", &after(f64::INFINITY));
     b.say("dump");
@@ -204,7 +204,7 @@ pub(super) fn stalled() -> (Vec<String>, f64) {
         // Equal steps round the same way each time while the bytes keep their exponent.
         for poll in 1..=30 {
             trial.say(&format!("advance {} 768", 32 * poll));
-            trial.say("estimate_remaining 1");
+            trial.say("settle");
         }
         let lines = trial.lines.clone();
         let stands = |trial: &mut Book, time: f64| {

@@ -1,5 +1,5 @@
 //! A few lines each, aimed at places that random numbers do not meet: bytes left, time left and latency left at their
-//! tolerances, transfers that stall, the calls that drain before they change something, ties and clamps.
+//! tolerances, transfers that stall, questions that only read, the calls that drain before they change something, ties and clamps.
 
 use super::*;
 use crate::tolerances::{eps_at, neighbours, whole_over_double, B};
@@ -9,18 +9,24 @@ const LITTLE: f64 = 1.0 / (1 << 19) as f64;
 /// A rate at which anything takes longer than a double can tell.
 const LEAST: f64 = f64::from_bits(1);
 
+/// Emits lines for one place, or stops where one of them may not be.
+type Aim = fn(&mut Generator) -> Option<()>;
+
 impl Generator {
     /// Some lines at one place, or a single one where a call would leave the domain of `whole` or a table is full.
     pub(super) fn aim(&mut self) {
-        let aims: &[fn(&mut Generator) -> Option<()>] = match self.profile {
+        let common: &[Aim] = match self.profile {
             // Of a drain before a change and of a number next to a tolerance, nothing lies in the exact domain.
-            Profile::Whole => &[Self::at_stall, Self::at_drain_time, Self::at_latency_left],
-            Profile::Wild => &[Self::at_stall, Self::at_bytes_left, Self::at_drain_time, Self::at_latency_left, Self::at_change, Self::at_clamp],
-            Profile::Ties => &[Self::at_stall, Self::at_bytes_left, Self::at_drain_time, Self::at_latency_left, Self::at_change, Self::at_equal_caps],
-            Profile::Crowd => &[Self::at_stall, Self::at_bytes_left, Self::at_drain_time, Self::at_latency_left, Self::at_change, Self::at_many_caps],
-            _ => &[Self::at_stall, Self::at_bytes_left, Self::at_drain_time, Self::at_latency_left, Self::at_change],
+            Profile::Whole => &[Self::at_stall, Self::at_watch, Self::at_drain_time, Self::at_latency_left],
+            _ => &[Self::at_stall, Self::at_watch, Self::at_bytes_left, Self::at_drain_time, Self::at_latency_left, Self::at_change],
         };
-        let aim = *self.random.pick(aims);
+        let own: &[Aim] = match self.profile {
+            Profile::Wild => &[Self::at_clamp],
+            Profile::Ties => &[Self::at_equal_caps],
+            Profile::Crowd => &[Self::at_many_caps],
+            _ => &[],
+        };
+        let aim = *self.random.pick(&[common, own].concat());
         if aim(self).is_none() {
             self.emit(Call::Now.to_string());
         }
@@ -60,7 +66,9 @@ impl Generator {
             }
             _ => {}
         }
-        self.maybe(Call::EstimateRemaining { id }, 30)?;
+        if self.random.chance(30) {
+            self.time_left(id)?;
+        }
         self.aimed(Call::Advance { time: end, places: AMPLE })?;
         self.maybe(Call::Contains { id }, 30)
     }
@@ -68,20 +76,64 @@ impl Generator {
     /// A transfer that stalls or nearly so, and how long it takes: over a path or not, at no rate or the least, with no bytes or all; then plugged in, unplugged or gone.
     fn at_stall(&mut self) -> Option<()> {
         let clock = self.session.sim.now();
-        let (capacity, cap) = *self.random.pick(&[(0.0, None), (8.0, None), (8.0, Some(0.0)), (LEAST, None)]);
+        let (capacity, cap) = *self.random.pick(&[(0.0, None), (8.0, None), (8.0, Some(0.0)), (LEAST, None), (LEAST, None)]);
         let bytes = *self.random.pick(&[0, 8, 8, 1 << 53]);
         let latency = *self.random.pick(&[0.0, 0.0, 2.0]);
         let edge = self.aimed_edge(capacity)?;
         let path = if self.random.chance(25) { vec![] } else { vec![edge] };
         let id = self.aimed_submit(bytes, latency, cap, clock, path)?;
-        self.aimed(Call::EstimateRemaining { id })?;
+        self.time_left(id)?;
         let change = match self.random.below(3) {
             0 => Call::Widen { edge, amount: 8.0 },
             1 => Call::Widen { edge, amount: -capacity },
             _ => Call::Cancel { id },
         };
         self.aimed(change)?;
-        self.aimed(Call::EstimateRemaining { id })
+        // Drained by the change, and at the rate from before.
+        self.aimed(Call::Remaining { id })?;
+        self.time_left(id)
+    }
+
+    /// Somebody watches: the time left is asked after a quiet advance or two, as it was at the last drain, and then settled.
+    fn at_watch(&mut self) -> Option<()> {
+        if self.random.chance(25) {
+            return self.at_growing_eps();
+        }
+        let id = if self.random.chance(50) { self.alone()?.0 } else { self.known_id() };
+        self.maybe(Call::Remaining { id }, 30)?;
+        let question = if self.random.chance(50) { Call::NextCompletionDelay } else { Call::Rate { id } };
+        self.aimed(question)?;
+        for _ in 0..self.random.between(1, 2) {
+            self.quiet_step()?;
+            self.aimed(Call::Remaining { id })?;
+        }
+        self.aimed(Call::Settle)?;
+        self.aimed(Call::Remaining { id })
+    }
+
+    /// What is left lies above eps at the last drain, and not at the clock. A quiet advance ends before anybody is done, and eps grows by its 2^50th part
+    /// alone, so there are only the last steps before a completion: the next double where eps has left its floor, or from half an eps before a power of two,
+    /// where every step is exact.
+    fn at_growing_eps(&mut self) -> Option<()> {
+        let clock = self.session.sim.now();
+        let step = clock.next_up();
+        let (id, drained, end) = if self.profile != Profile::Whole && eps_at(step) > eps_at(clock) {
+            let target = eps_at(step);
+            let (bytes, cap) = whole_over_double(target, self.random.between(1, 3000) as u64)?;
+            let by_latency = self.random.chance(50);
+            let (bytes, latency, cap) = if by_latency { (0, target, None) } else { (bytes, 0.0, Some(cap)) };
+            (self.aimed_submit(bytes, latency, cap, clock, vec![])?, clock, step)
+        } else {
+            let end = 2f64.powi(exponent(clock.max(1024.0)) + 1);
+            let half = eps_at(end) / 2.0;
+            (self.aimed_submit(0, end + half - clock, None, clock, vec![])?, end - half, end)
+        };
+        self.aimed(Call::NextCompletionDelay)?;
+        self.aimed(Call::Advance { time: drained, places: AMPLE })?;
+        self.aimed(Call::Settle)?;
+        self.maybe(Call::Remaining { id }, 50)?;
+        self.aimed(Call::Advance { time: end, places: AMPLE })?;
+        self.aimed(Call::Remaining { id })
     }
 
     /// Bytes over rate are eps or a neighbour of it.
@@ -119,25 +171,15 @@ impl Generator {
 
     /// A quiet advance, then a call that has to drain before it changes anything, then one that shows the bytes.
     fn at_change(&mut self) -> Option<()> {
-        let clock = self.session.sim.now();
         let moving = |t: &copies::TransferView| t.rate > 0.0 && t.rate.is_finite() && t.bytes > 1.0 && t.latency == 0.0 && !t.path.is_empty();
         let mut found: Vec<(u32, u32)> = self.session.sim.transfers().iter().filter(|t| moving(t)).map(|t| (t.id, t.path[0] as u32)).collect();
         if found.is_empty() || self.random.chance(30) {
-            let capacity = Some(self.capacity()).filter(|c| c.is_finite() && *c > 0.0).unwrap_or(8.0);
-            let edge = self.aimed_edge(capacity)?;
-            let bytes = self.some_bytes();
-            found = vec![(self.aimed_submit(bytes, 0.0, None, clock, vec![edge])?, edge)];
+            found = vec![self.alone()?];
         }
         let (id, edge) = *self.random.pick(&found);
         self.aimed(Call::NextCompletionDelay)?;
         for _ in 0..self.random.between(1, 2) {
-            let clock = self.session.sim.now();
-            let ahead = match self.session.sim.next_done() {
-                Some(next) if next.is_finite() => (next - clock) * (0.125 + 0.75 * self.fraction()),
-                _ => self.step_ahead(),
-            };
-            let time = Some(clock + ahead).filter(|t| *t > clock && *t <= LATEST)?;
-            self.aimed(Call::Advance { time, places: AMPLE })?;
+            self.quiet_step()?;
         }
         let change = match self.random.below(6) {
             0 => Call::AddEdge { capacity: self.capacity() },
@@ -223,11 +265,38 @@ impl Generator {
     /// What drains, fills or only looks, or nothing.
     fn question(&mut self, id: u32) -> Option<()> {
         match self.random.below(4) {
-            0 => self.aimed(Call::EstimateRemaining { id }),
+            0 => self.time_left(id),
             1 => self.aimed(Call::NextCompletionDelay),
             2 => self.aimed(Call::Rate { id }),
             _ => Some(()),
         }
+    }
+
+    /// The time left, settled mostly, as it stands, or both.
+    fn time_left(&mut self, id: u32) -> Option<()> {
+        self.maybe(Call::Remaining { id }, 25)?;
+        self.maybe(Call::Settle, 75)?;
+        self.aimed(Call::Remaining { id })
+    }
+
+    /// The clock moves on to where nobody is done yet, if rates are up to date.
+    fn quiet_step(&mut self) -> Option<()> {
+        let clock = self.session.sim.now();
+        let ahead = match self.session.sim.next_done() {
+            Some(next) if next.is_finite() => (next - clock) * (0.125 + 0.75 * self.fraction()),
+            _ => self.step_ahead(),
+        };
+        let time = Some(clock + ahead).filter(|t| *t > clock && *t <= LATEST)?;
+        self.aimed(Call::Advance { time, places: AMPLE })
+    }
+
+    /// A new transfer over an edge of its own, and that edge.
+    fn alone(&mut self) -> Option<(u32, u32)> {
+        let clock = self.session.sim.now();
+        let capacity = Some(self.capacity()).filter(|c| c.is_finite() && *c > 0.0).unwrap_or(8.0);
+        let edge = self.aimed_edge(capacity)?;
+        let bytes = self.some_bytes();
+        Some((self.aimed_submit(bytes, 0.0, None, clock, vec![edge])?, edge))
     }
 
     /// A new edge, which nobody else crosses.
@@ -267,6 +336,7 @@ fn exponent(value: f64) -> i32 {
 #[cfg(test)]
 mod tests {
     use super::*;
+    use crate::script::Line;
     use copies::TransferView;
 
     /// The profiles whose scripts of so many lines bring some transfer there.
@@ -302,13 +372,14 @@ mod tests {
         assert_eq!(met(6000, |t, clock| t.latency == eps_at(clock).next_up()), ALL[1..]);
     }
 
-    /// The profiles whose scripts of so many lines get that answer on a transfer's time.
-    fn told(lines: usize, wanted: &str) -> Vec<&'static str> {
+    /// The profiles whose scripts of so many lines get such an answer on a transfer's time.
+    fn told(lines: usize, wanted: fn(&str, &Session, u32) -> bool) -> Vec<&'static str> {
         let tells = |profile: Profile| {
             let mut session = Session::new(copies::patched, false);
             script(3, lines, profile).iter().any(|line| {
-                let answer = session.answer_line(&read_line(line));
-                line.starts_with("estimate_remaining") && answer.as_deref() == Some(wanted)
+                let read = read_line(line);
+                let answer = session.answer_line(&read).unwrap_or_default();
+                matches!(read, Line::Call(Call::Remaining { id }) if wanted(&answer, &session, id))
             })
         };
         PROFILES.iter().filter(|(_, profile)| tells(*profile)).map(|(name, _)| *name).collect()
@@ -316,10 +387,31 @@ mod tests {
 
     #[test]
     fn every_answer_on_the_time_left_is_met() {
-        for wanted in ["unknown", "cannot_finish", "value 0000000000000000"] {
-            assert_eq!(told(6000, wanted), ALL, "{wanted}");
-        }
-        assert_eq!(told(6000, "value 7ff0000000000000"), ALL[1..]);
+        assert_eq!(told(6000, |said, _, _| said == "unknown current"), ALL);
+        assert_eq!(told(6000, |said, _, _| said == "unknown behind"), ALL);
+        assert_eq!(told(6000, |said, _, _| said == "cannot_finish current"), ALL);
+        assert_eq!(told(6000, |said, _, _| said == "cannot_finish behind"), ALL);
+        assert_eq!(told(6000, |said, _, _| said == "value 0000000000000000 current"), ALL);
+        assert_eq!(told(6000, |said, _, _| said == "value 0000000000000000 behind"), ALL);
+        assert_eq!(told(6000, |said, _, _| said == "value 7ff0000000000000 current"), ALL[1..]);
+        assert_eq!(told(6000, |said, _, _| said == "value 7ff0000000000000 behind"), ALL[1..]);
+    }
+
+    /// A time above 0, settled and as it was before a quiet advance.
+    #[test]
+    fn times_are_met_before_and_after_settling() {
+        assert_eq!(told(6000, |said, _, _| said.starts_with("value 4") && said.ends_with("current")), ALL);
+        assert_eq!(told(6000, |said, session, _| said.starts_with("value 4") && session.sim.last_drain() < Some(session.sim.now())), ALL);
+    }
+
+    #[test]
+    fn eps_at_the_clock_makes_a_transfer_done_that_was_not_at_the_last_drain() {
+        let grown = |said: &str, session: &Session, id: u32| {
+            let found = session.sim.transfers().into_iter().find(|t| t.id == id);
+            let above = |t: TransferView| t.latency > eps_at(t.last) || t.bytes > B && t.bytes / t.rate > eps_at(t.last);
+            said == "value 0000000000000000 behind" && found.is_some_and(above)
+        };
+        assert_eq!(told(6000, grown), ALL);
     }
 
     /// Of five or more with one cap some run at it, and the last a rounding below.
