@@ -8,6 +8,7 @@ mod refusals;
 mod steps;
 mod time_left;
 mod tolerance;
+mod watching;
 
 use crate::script::{hex, read_line, write_double, write_path};
 use crate::session::Session;
@@ -28,6 +29,7 @@ pub fn scripts() -> Vec<(&'static str, Vec<String>)> {
         ("latency-left", tolerance::latency_left()),
         ("next-done", tolerance::next_done()),
         ("time-left", time_left::time_left()),
+        ("watching", watching::watching()),
         ("steps", steps::steps()),
         ("equal-caps", orders::equal_caps()),
         ("many-caps", orders::many_caps()),
