@@ -208,7 +208,7 @@ impl Generator {
         // So many steps of a hundred are some lines aimed at one place.
         let aimed = match self.profile {
             Profile::Whole => 3,
-            Profile::Wrong => 16,
+            Profile::Wrong => 10,
             _ => 8,
         };
         if self.random.chance(aimed) {

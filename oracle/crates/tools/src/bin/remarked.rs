@@ -19,6 +19,8 @@ fn doubles(line: &str) -> Option<Vec<f64>> {
     let words: Vec<&str> = line.split(' ').collect();
     let wanted = match (words[0], words.len()) {
         ("value" | "after", 2) => &words[1..],
+        // A time left, which says how fresh it is.
+        ("value", 3) if matches!(words[2], "current" | "behind") => &words[1..2],
         ("edge", 4) => &words[1..],
         ("at", 2..) => &words[1..2],
         _ => return None,
@@ -36,8 +38,11 @@ mod tests {
     fn what_gets_a_remark() {
         assert_eq!(doubles("after 4014000000000000"), Some(vec![5.0]));
         assert_eq!(doubles("at 3ff0000000000000 list 1 0 0 1"), Some(vec![1.0]));
+        assert_eq!(doubles("value 4014000000000000 current"), Some(vec![5.0]));
+        assert_eq!(doubles("value 4014000000000000 behind"), Some(vec![5.0]));
         assert_eq!(doubles("edge 4024000000000000 0000000000000000 3ff0000000000000"), Some(vec![10.0, 0.0, 1.0]));
-        for other in ["edge 0", "edge 0 4024000000000000 0000000000000000 3ff0000000000000", "value 7ff0000000000000", "done", "list 0 tail-kept"] {
+        for other in ["edge 0", "edge 0 4024000000000000 0000000000000000 3ff0000000000000", "value 7ff0000000000000", "done", "list 0 tail-kept",
+            "value 7ff0000000000000 behind", "unknown current", "cannot_finish behind", "value 4014000000000000 other"] {
             assert_eq!(doubles(other), None, "{other}");
         }
     }
