@@ -21,11 +21,11 @@ fn make() -> Result<(), String> {
     ];
     let folder = PathBuf::from(std::env::var_os("OUT_DIR").expect("run by cargo"));
     for fault in all() {
-        let mut text = patched.clone();
+        let mut text = patched.clone() + &ends.concat();
         for (from, to) in fault.edits {
             text = making::substitute(&text, from, to).map_err(|why| format!("fault {}: {why}", fault.name))?;
         }
-        making::write(&folder.join(format!("{}.rs", fault.name)), &(text + &ends.concat()))?;
+        making::write(&folder.join(format!("{}.rs", fault.name)), &text)?;
     }
     let names: Vec<String> = all().map(|fault| fault.name.to_string()).collect();
     let modules = making::modules(&folder, &names).replace("dead_code", "dead_code, unused");

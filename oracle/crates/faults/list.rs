@@ -1,5 +1,5 @@
-// The seeded faults: a name, what is wrong, and the texts exchanged, each of which must stand in the patched copy exactly
-// once. Read by the build, which makes a copy of each, and by the program, which runs them.
+// The seeded faults: a name, what is wrong, and the texts exchanged, each of which must stand in the patched copy, its accessors
+// behind it, exactly once. Read by the build, which makes a copy of each, and by the program, which runs them.
 
 pub struct Fault {
     pub name: &'static str,
@@ -119,7 +119,12 @@ pub const FAULTS: &[Fault] = &[
     fault("done_not_stale", "completions leave the rates as they are", &[("if !done.is_empty() {", "if done.len() > 999 {")]),
     fault("widen_not_stale", "widen leaves the rates as they are", &[("capacity += bytes_per_sec;\n        self.rates_dirty = true;", "capacity += bytes_per_sec;")]),
     fault("estimate_without_itself", "an estimate forgets the new transfer", &[("(load[e] + 1) as f64", "load[e].max(1) as f64")]),
-    fault("remaining_no_drain", "estimate_remaining does not drain", &[("self.drain_to(now);\n        self.ensure_rates();\n        self.in_flight", "self.ensure_rates();\n        self.in_flight")]),
+    fault("settle_no_drain", "settle does not drain", &[("self.drain_to(now);\n        self.ensure_rates();\n        self.in_flight", "self.ensure_rates();\n        self.in_flight")]),
+    fault("settle_no_filling", "settle leaves rates stale", &[("self.drain_to(now);\n        self.ensure_rates();\n        self.in_flight", "self.drain_to(now);\n        self.in_flight")]),
+    fault("settle_fills_anew", "settle fills rates that are up to date", &[("self.drain_to(now);\n        self.ensure_rates();\n        self.in_flight", "self.drain_to(now); self.rates_dirty = true;\n        self.ensure_rates();\n        self.in_flight")]),
+    fault("quiet_records", "the quiet advance counts as a drain", &[("self.now = now;\n            }\n            return Vec::new();", "self.now = now; self.last_drain = now;\n            }\n            return Vec::new();")]),
+    fault("nobody_drained", "a drain with nobody in flight is not recorded", &[("self.last_drain = now;", "if !self.in_flight.is_empty() { self.last_drain = now; }")]),
+    fault("drained_before", "a drain records the clock it starts from", &[("self.last_drain = now;", "self.last_drain = self.now;")]),
     fault("delay_below_zero", "the delay may fall below 0", &[("(t - self.now).max(0.0)", "(t - self.now)")]),
     fault("latency_below_zero", "a latency below zero is kept", &[("latency_remaining: latency.max(0.0)", "latency_remaining: latency")]),
     fault("no_path_no_rate", "no path and no cap gives rate 0", &[("unwrap_or(f64::INFINITY)", "unwrap_or(0.0)")]),
@@ -129,6 +134,22 @@ pub const FAULTS: &[Fault] = &[
         &[("let mut ts: Vec<", "for t in self.in_flight.values_mut() { if t.bytes_remaining <= DONE_EPSILON_BYTES { t.rate = 0.0; } }\n        let mut ts: Vec<")],
     ),
     fault("rounds_with_caps_only", "rounds won by a cap are not counted", &[("frozen[i] = true;\n                    unfrozen -= 1;", "frozen[i] = true; self.rounds -= 1;\n                    unfrozen -= 1;")]),
+    // ---- the question that only reads, which the Rust has not: its accessor ----
+    fault(
+        "remaining_old_eps",
+        "remaining takes eps at the last drain",
+        &[("Self::time_to_done(t, self.done_eps()).map(outward)", "Self::time_to_done(t, (t.last_update * 4.0 * f64::EPSILON).max(DONE_EPSILON_SECONDS)).map(outward)")],
+    ),
+    fault(
+        "remaining_passed_off",
+        "remaining takes off the time since the last drain",
+        &[("Self::time_to_done(t, self.done_eps()).map(outward)", "Self::time_to_done(t, self.done_eps()).map(|left| outward((left - (self.now - t.last_update)).max(0.0)))")],
+    ),
+    fault(
+        "remaining_as_settled",
+        "remaining answers as if it were settled",
+        &[("let transfer = self.in_flight.get", "let mut settled = self.clone(); settled.settle(); let transfer = settled.in_flight.get")],
+    ),
 ];
 
 /// Edits that were looked at and change nothing, with the reason. The program makes sure that nothing tells them apart.
