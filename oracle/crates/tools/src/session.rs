@@ -450,17 +450,16 @@ mod tests {
         assert_eq!(after_two(&["run_until 8000000000000000"]), "done");
     }
 
-    /// The answers of patched to the last so many calls of a script, in its own form.
-    fn patched(script: &[&str], count: usize) -> Vec<String> {
+    /// The answers of patched to a script, in its own form.
+    fn patched(script: &[&str]) -> Vec<String> {
         let mut session = Session::new(copies::patched, false);
-        let answers: Vec<String> = script.iter().map(|line| session.answer_line(&read_line(line)).expect("a call")).collect();
-        answers[answers.len() - count..].to_vec()
+        script.iter().map(|line| session.answer_line(&read_line(line)).expect("a call")).collect()
     }
 
     /// A transfer of 100 bytes at 10 a second, its rate filled, and then some calls; the answers to these.
     fn after_one(calls: &[&str]) -> Vec<String> {
         let one = ["add_edge 10", "submit 1 0 0 100 0 - 0 1 0", "next_completion_delay"];
-        patched(&[&one, calls].concat(), calls.len())
+        patched(&[&one, calls].concat()).split_off(one.len())
     }
 
     fn left(time: f64, flag: &str) -> String {
@@ -469,11 +468,10 @@ mod tests {
 
     #[test]
     fn a_fresh_simulator_was_drained_at_0() {
-        assert_eq!(patched(&["remaining 1", "advance 3 768", "remaining 1", "settle", "remaining 1"], 5)[0], "unknown current");
         // Nothing is stale and nobody in flight, so the advance is quiet.
-        let said = patched(&["remaining 1", "advance 3 768", "remaining 1", "settle", "remaining 1"], 3);
-        assert_eq!(said, ["unknown behind", "done", "unknown current"]);
-        assert_eq!(patched(&["add_edge 1", "remaining 1"], 1), ["unknown behind"]);
+        let said = patched(&["remaining 1", "advance 3 768", "remaining 1", "settle", "remaining 1"]);
+        assert_eq!(said, ["unknown current", "list 0 tail-kept", "unknown behind", "done", "unknown current"]);
+        assert_eq!(patched(&["add_edge 1", "remaining 1"]), ["edge 0", "unknown behind"]);
     }
 
     #[test]
@@ -510,11 +508,11 @@ mod tests {
 
     #[test]
     fn a_watched_run_is_the_unwatched_one() {
-        let plan = ["add_edge 3", "submit 1 0 0 10 0.1 - 0 1 0", "submit 2 0 0 7 0 0.7 0.3 1 0", "next_completion_delay", "advance 1.1 768", "widen 0 0.1", "finish", "dump"];
+        let start = ["add_edge 3", "submit 1 0 0 10 0.1 - 0 1 0", "submit 2 0 0 7 0 0.7 0.3 1 0", "next_completion_delay"];
+        let plan = [&start[..], &["advance 1.1 768", "widen 0 0.1", "finish", "dump"]].concat();
         let watched: Vec<&str> = plan.iter().flat_map(|line| [*line, "remaining 1", "remaining 2"]).collect();
-        let said = patched(&watched, watched.len());
-        let others: Vec<&String> = said.iter().step_by(3).collect();
-        assert_eq!(others, patched(&plan, plan.len()).iter().collect::<Vec<_>>());
+        let others: Vec<String> = patched(&watched).into_iter().step_by(3).collect();
+        assert_eq!(others, patched(&plan));
     }
 
     #[test]

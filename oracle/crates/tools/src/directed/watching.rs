@@ -22,6 +22,7 @@ pub(super) fn watching() -> Vec<String> {
     without_limit(b);
     at_eps(b);
     eps_grows(b);
+    eps_grows_exactly(b);
     watched_and_unwatched(b);
     book.lines
 }
@@ -247,7 +248,9 @@ fn without_limit(b: &mut Book) {
     b.say("submit 2 0 0 1000 3 - 0 0");
     behind(b, 1, &value(0.0));
     behind(b, 2, CANNOT);
+    behind(b, 9, UNKNOWN);
     b.settled(2, &value(3.0));
+    current(b, 9, UNKNOWN);
     b.expect("advance 0 768", "list 1 0 0 1 tail-kept");
     behind(b, 2, &value(3.0));
     b.expect("rate 2", &value(f64::INFINITY));
@@ -280,6 +283,7 @@ fn at_eps(b: &mut Book) {
             b.say(&format!("advance {at} 768"));
             b.say(&format!("submit 1 0 0 0 {} - {at} 0", hex(target)));
             behind(b, 1, &told);
+            behind(b, 9, UNKNOWN);
             b.settled(1, &told);
             b.say("dump");
 
@@ -320,12 +324,17 @@ fn eps_grows(b: &mut Book) {
             behind(b, 1, &value(0.0));
             behind(b, 2, &left);
             behind(b, 3, &value(0.0));
+            behind(b, 9, UNKNOWN);
         }
         b.say("dump");
         b.settled(1, &value(0.0));
         b.say("dump");
     }
-    b.begin("the same across a power of two, every step exact");
+}
+
+/// The same from half an eps before a power of two, so that the Rust as given can be compared.
+fn eps_grows_exactly(b: &mut Book) {
+    b.begin("eps grows past what is left across a power of two, every step exact");
     let half = 2f64.powi(-31);
     assert_eq!(eps_at(TWO_20), 2.0 * half);
     b.say(&format!("submit 1 0 0 0 {} - 0 0", hex(TWO_20 + half)));

@@ -397,7 +397,7 @@ mod tests {
         assert_eq!(told(6000, |said, _, _| said == "value 7ff0000000000000 behind"), ALL[1..]);
     }
 
-    /// A time above 0, settled and as it was before a quiet advance.
+    /// A time of two seconds or more, settled and as it was before a quiet advance.
     #[test]
     fn times_are_met_before_and_after_settling() {
         assert_eq!(told(6000, |said, _, _| said.starts_with("value 4") && said.ends_with("current")), ALL);
