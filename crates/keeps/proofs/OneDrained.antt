@@ -37,11 +37,7 @@ drained-same until t =
     by-test (Same t) (t .taken) (λ _. record { taken = refl; id = refl; owner = refl; path = refl; cap = refl; rate = refl })
     (record { taken = refl; id = refl; owner = refl; path = refl; cap = refl; rate = refl })
 
--- a transfer in flight has been drained up to the time, and a free slot is not touched
-pub drained-time : (until : Float) (t : Transfer) → t .taken ≡ true → drained until t .«last_update» ≡ until
-unfolding drained
-drained-time until t e = rw e
-
+-- a free slot is not touched
 pub drained-free : (until : Float) (t : Transfer) → t .taken ≡ false → drained until t ≡ t
 unfolding drained
 drained-free until t e = rw e
