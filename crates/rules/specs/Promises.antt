@@ -114,7 +114,7 @@ TimeLeftTold = (id : ℕ) (f : Flows) → Invariant f → TellsTimeLeft id f (re
 
 -- ---- over every simulator at all
 
--- A call that is refused, an id that is unknown and a take with nothing waiting leave the simulator as it was. (01, Numbers)
+-- A call that is refused, an id that is unknown and a take with nothing waiting leave the simulator as it was, and a question that only reads does, whatever it says. (01, Numbers; 02, P10)
 abbrev pub RefusalsMoveNothing : Type 0
 RefusalsMoveNothing = (t : Turn) (f : Flows) → T (unmoved (touch (t .call)) (after t f .made .said)) → after t f .made .flows ≡ f
 

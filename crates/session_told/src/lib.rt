@@ -113,8 +113,10 @@ fn answer(answer: Answer, width: usize, lent: &[u32], page: &mut [u8; 65536], at
             let next = put_text(page, at, b"nothing");
             unwritten(page, next, lent)
         }
-        Answer::Unknown => put_text(page, at, b"unknown\n"),
-        Answer::CannotFinish => put_text(page, at, b"cannot_finish\n"),
+        Answer::Unknown | Answer::CannotFinish => {
+            let next = no_time(page, at, answer);
+            put_text(page, next, b"\n")
+        }
         Answer::Value(x) => valued(page, at, b"value ", x),
         Answer::Due(delay) => due(page, at, delay),
         Answer::Refused(n) => {

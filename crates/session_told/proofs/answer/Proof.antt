@@ -44,23 +44,14 @@ put-text-requires-2 c κs = search needs
 unwritten-requires : tie.Need-unwritten-requires
 unwritten-requires c κs = search needs
 
-enum-told-3 : tie.Need-enum-told-3
-enum-told-3 c = search needs
+no-time-requires : tie.Need-no-time-requires
+no-time-requires c κs = search needs
 
 slice-aggregate-put-text-3 : tie.Need-slice-aggregate-put-text-3
 slice-aggregate-put-text-3 c = search needs
 
 put-text-requires-3 : tie.Need-put-text-requires-3
 put-text-requires-3 c κs = search needs
-
-enum-told-4 : tie.Need-enum-told-4
-enum-told-4 c = search needs
-
-slice-aggregate-put-text-4 : tie.Need-slice-aggregate-put-text-4
-slice-aggregate-put-text-4 c = search needs
-
-put-text-requires-4 : tie.Need-put-text-requires-4
-put-text-requires-4 c κs = search needs
 
 enum-known-answer-3 : tie.Need-enum-known-answer-3
 enum-known-answer-3 c = search needs
@@ -80,11 +71,11 @@ due-requires c κs = search needs
 enum-known-answer-5 : tie.Need-enum-known-answer-5
 enum-known-answer-5 c = search needs
 
-slice-aggregate-put-text-5 : tie.Need-slice-aggregate-put-text-5
-slice-aggregate-put-text-5 c = search needs
+slice-aggregate-put-text-4 : tie.Need-slice-aggregate-put-text-4
+slice-aggregate-put-text-4 c = search needs
 
-put-text-requires-5 : tie.Need-put-text-requires-5
-put-text-requires-5 c κs = search needs
+put-text-requires-4 : tie.Need-put-text-requires-4
+put-text-requires-4 c κs = search needs
 
 spaced-short-requires : tie.Need-spaced-short-requires
 spaced-short-requires c κs = search needs
@@ -116,9 +107,6 @@ returns-7 c = search needs
 returns-8 : tie.Need-returns-8
 returns-8 c = search needs
 
-returns-9 : tie.Need-returns-9
-returns-9 c = search needs
-
 pub answer-spec : {M : Type 1} → statement M
 answer-spec =
     tie.close
@@ -136,20 +124,17 @@ answer-spec =
     slice-aggregate-put-text-2
     put-text-requires-2
     unwritten-requires
-    enum-told-3
+    no-time-requires
     slice-aggregate-put-text-3
     put-text-requires-3
-    enum-told-4
-    slice-aggregate-put-text-4
-    put-text-requires-4
     enum-known-answer-3
     slice-aggregate-valued
     valued-requires
     enum-known-answer-4
     due-requires
     enum-known-answer-5
-    slice-aggregate-put-text-5
-    put-text-requires-5
+    slice-aggregate-put-text-4
+    put-text-requires-4
     spaced-short-requires
     unwritten-requires-2
     returns
@@ -159,5 +144,4 @@ answer-spec =
     returns-5
     returns-6
     returns-7
-    returns-8
-    returns-9)
+    returns-8)
