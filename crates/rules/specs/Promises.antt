@@ -127,7 +127,7 @@ pub record AsWithout (kept : Turn → Bool) (f : Flows) (turns : List Turn) : Ty
   pub others : journal f (those kept turns) ≡ those (λ entry. kept (entry .0)) (journal f turns)
   pub flows : run f (those kept turns) ≡ run f turns
 
--- A watched run is an unwatched one: questions that only read, `remaining` among them, may be put in anywhere and left out again. (02, P10)
+-- A watched run is an unwatched one: questions that only read may be put in anywhere and left out again. Where all turns are kept but those that ask `remaining`, this is the request's own claim. (02, P10)
 abbrev pub WatchedAsUnwatched : Type 0
 WatchedAsUnwatched = (kept : Turn → Bool) → ((t : Turn) → T (kept t || only-reads (touch (t .call)))) → (f : Flows) (turns : List Turn) → AsWithout kept f turns
 
