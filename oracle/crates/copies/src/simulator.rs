@@ -58,7 +58,7 @@ pub trait Simulator {
     fn estimate_new(&self, path: &[usize], bytes: Double, latency: Double, cap: Option<Double>) -> Double;
     /// The Rust's own question, which drains and fills first; 0 of an unknown id and of one that can't finish.
     fn estimate_remaining(&mut self, id: u32) -> Double;
-    /// Drains to the clock and brings rates up to date: the Rust's own question of a name that nobody has.
+    /// Drains to the clock, and fills where rates are stale: the Rust's own question of a name that nobody has.
     fn settle(&mut self);
     /// How long a transfer takes by the state as it stands, with eps at the clock: none for an unknown id, and no time for one that can't finish.
     fn time_left(&self, id: u32) -> Option<Option<Double>>;
