@@ -121,10 +121,11 @@ lists-one T id = lending 6 (Advance (whole T)) (Listed 1) (0 ∷ 0 ∷ id ∷ le
 abbrev edge-is : ℕ → ℕ → ℕ → ℕ → Step
 edge-is e capacity moved busy = Edge e says Said-variants.Edge (Found (record { capacity = whole capacity; «bytes_moved» = whole moved; «busy_transfer_seconds» = whole busy }))
 
--- The time left of a transfer as it is told where it is of now, and where it is behind.
+-- The time left of a transfer, told as of now.
 abbrev current : ℕ → Answer → Step
 current id a = Remaining id says Said-variants.TimeLeft (record { answer = a; behind = false })
 
+-- The same, told as behind.
 abbrev lagging : ℕ → Answer → Step
 lagging id a = Remaining id says Said-variants.TimeLeft (record { answer = a; behind = true })
 

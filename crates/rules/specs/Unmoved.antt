@@ -38,7 +38,7 @@ pub data Touch : Type 0 where
   -- it fills or drains, whatever it says
   Refreshes : Touch
 
--- How each call does. Asking for a rate or the next completion still brings rates up to date, of an unknown id too. (01, Numbers and Questions; 02, P10)
+-- How each call does. Asking for a rate, of an unknown id too, or for the next completion still brings rates up to date. (01, Numbers and Questions; 02, P10)
 unfoldable pub touch : Call → Touch
 touch (Advance T) = Works
 touch (Submit submission) = Works
