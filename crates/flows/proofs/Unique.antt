@@ -22,6 +22,7 @@ bytes-same {z} {z'} a b c =
 pub each-decided : EachDecided
 each-decided = record {
   flows-new = λ κs a z z' e e' p q. p .0 ∙ sym (q .0);
+  flows-with-floor = λ κs a z z' e e' p q. p .0 ∙ sym (q .0);
   transfer-free = λ κs a z z' e e' p q. p ∙ sym q;
   tolerance-new = λ κs a z z' e e' p q. p ∙ sym q;
   tolerance-eps = λ κs a z z' e e' p q. p ∙ sym q;

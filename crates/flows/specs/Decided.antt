@@ -4,6 +4,8 @@ use denote.Ref.{now}
 use Rattle.rules.specs.Unique.{Decided, DecidedWith}
 use Rattle.rules.proofs.Flows.new.Reads as flows-new
 use Rattle.rules.proofs.Flows.new.Kinds as flows-new-kinds
+use Rattle.rules.proofs.Flows.with_floor.Reads as flows-with-floor
+use Rattle.rules.proofs.Flows.with_floor.Kinds as flows-with-floor-kinds
 use Rattle.rules.proofs.Transfer.free.Reads as transfer-free
 use Rattle.rules.proofs.Transfer.free.Kinds as transfer-free-kinds
 use Rattle.rules.proofs.Tolerance.new.Reads as tolerance-new
@@ -72,6 +74,7 @@ use Rattle.calls.proofs.make.Kinds as make-kinds
 pub record EachDecided : Type 0 where
   -- what a type makes of itself
   pub flows-new : Decided 0 flows-new-kinds.ps flows-new-kinds.r flows-new.Post
+  pub flows-with-floor : Decided 0 flows-with-floor-kinds.ps flows-with-floor-kinds.r flows-with-floor.Post
   pub transfer-free : Decided 0 transfer-free-kinds.ps transfer-free-kinds.r transfer-free.Post
   pub tolerance-new : Decided 0 tolerance-new-kinds.ps tolerance-new-kinds.r tolerance-new.Post
   pub tolerance-eps : Decided 0 tolerance-eps-kinds.ps tolerance-eps-kinds.r tolerance-eps.Post

@@ -1,4 +1,4 @@
--- After any history of calls the invariant holds, since the fresh simulator keeps it and every call does. Assumes nothing.
+-- After any history of calls the invariant holds, since a simulator as it is made keeps it and every call does. Assumes nothing.
 use Prim.Native.Nat.{ℕ}
 use mathlib.Core.Bool.{_&&_}
 use mathlib.Core.List.{List, [], _∷_}
@@ -9,11 +9,11 @@ use Rattle.rules.specs.declared.Flows.{Flows}
 use Rattle.rules.specs.declared.Call.{Call}
 use Rattle.rules.specs.declared.Call.the-variants.{Advance, Submit, Cancel, AddEdge, Widen, TakeCompleted, OwnersWithCompletions, NextCompletionDelay, EstimateNew, Settle, Remaining, MeanInFlight, Rate, Edge, Contains, Rounds}
 use Rattle.rules.specs.Lists.{all}
-use Rattle.rules.specs.Records.{fresh}
+use Rattle.rules.specs.Floors.{with-floor}
 use Rattle.rules.specs.Histories.{typed-cap, typed-call, call, Turn, typed, after, run}
 use Rattle.rules.specs.Promises.{AlwaysSound}
 use Rattle.rules.specs.Invariant.{Invariant}
-use Rattle.rules.proofs.Fresh.{fresh-keeps}
+use Rattle.rules.proofs.Fresh.{with-floor-keeps}
 use Rattle.keeps.proofs.Calls as Keeps
 
 pub call-keeps : (c : Call) (path : List ℕ) (f : Flows) (buffer : List ℕ) → T (typed-call c) → Invariant f → Invariant (call c path f buffer .made .flows)
@@ -46,4 +46,4 @@ run-keeps f [] h inv = inv
 run-keeps f (t ∷ turns) h inv = run-keeps (after t f .made .flows) turns (and-r (typed t) (all typed turns) h) (turn-keeps t f (and-l (typed t) (all typed turns) h) inv)
 
 pub always-sound : AlwaysSound
-always-sound turns t = run-keeps fresh turns t fresh-keeps
+always-sound floor turns held t = run-keeps (with-floor floor .flows) turns t (with-floor-keeps floor held)

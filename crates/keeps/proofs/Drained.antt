@@ -14,9 +14,8 @@ use Rattle.rules.specs.declared.Tally.{Tally}
 use Rattle.rules.specs.declared.Totals.{Totals}
 use Rattle.rules.specs.declared.Flows.{Flows}
 use Rattle.rules.specs.Lists.{count, Each}
-use Rattle.rules.specs.Tolerance.{default-tolerance}
 use Rattle.rules.specs.Records.{max-slots, free, owner-kind, tally-of, with-clock, made-stale}
-use Rattle.rules.specs.Invariant.{Summed, SoundTransfer, SoundSlot, of-kind, Invariant}
+use Rattle.rules.specs.Invariant.{Summed, SoundFloor, SoundTransfer, SoundSlot, of-kind, Invariant}
 use Rattle.rules.proofs.Routes.{route-more}
 use Rattle.keeps.proofs.Parts.{ClockSound, EdgesSound, QueueSound, CrowdSound, TotalsSound, Parts, joined}
 
@@ -38,7 +37,7 @@ pub record AllOwing (owed : List Completion) (slots : List Transfer) (n : ℕ) (
   pub balanced : (owner : Owner) → Owing owed slots owner (tally-of owner totals)
 
 pub record Drained (owed : List Completion) (f : Flows) : Type 0 where
-  pub tolerance : f .tolerance ≡ default-tolerance
+  pub tolerance : SoundFloor (f .tolerance .floor)
   pub clock : ClockSound (f .clock)
   pub edges : EdgesSound (f .edges) (f .«num_edges»)
   pub queue : QueueSound (f .completed) (f .«num_completed»)

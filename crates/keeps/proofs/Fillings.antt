@@ -4,13 +4,13 @@ use mathlib.Core.Path.{_≡_, ap}
 use mathlib.Core.Bool.{false}
 use mathlib.Core.List.{List}
 use lib.Dec.{T}
+use lib.Ieee.{Float, binary64, fits}
 use Rattle.doubles.specs.Doubles.{read-zero}
 use Rattle.rules.specs.declared.EdgeLoad.{EdgeLoad}
 use Rattle.rules.specs.declared.Flows.{Flows}
 use Rattle.rules.specs.Lists.{all}
-use Rattle.rules.specs.Records.{fresh}
 use Rattle.rules.specs.Clock.{edge-loads, drain-to}
-use Rattle.rules.specs.Histories.{Turn, typed, run}
+use Rattle.rules.specs.Histories.{Turn, typed, run-with-floor}
 use Rattle.rules.specs.Invariant.{Invariant}
 use Rattle.rules.specs.Promises.{WhereverFilled, AlwaysFair, AlwaysEnds, AlwaysLoaded, AlwaysMatched}
 use Rattle.fairness.proofs.Start.{filling-ends}
@@ -20,12 +20,12 @@ use Rattle.keeps.proofs.Arguments.{time-clock, time-no-earlier}
 use Rattle.keeps.proofs.Draining.{drain-to-keeps}
 use Rattle.keeps.proofs.Always.{always-sound}
 
-always : (P : Flows → Type 0) → ((f : Flows) → Invariant f → P f) → (turns : List Turn) → T (all typed turns) → WhereverFilled P (run fresh turns)
-always P holds turns t =
-    let inv = always-sound turns t in
+always : (P : Flows → Type 0) → ((f : Flows) → Invariant f → P f) → (floor : Float) (turns : List Turn) → T (fits binary64 floor) → T (all typed turns) → WhereverFilled P (run-with-floor floor turns)
+always P holds floor turns held t =
+    let inv = always-sound floor turns held t in
     record {
-      as-it-stands = holds (run fresh turns) inv;
-      drained = λ to fit time later. holds (drain-to (read-zero to) (run fresh turns)) (drain-to-keeps inv (time-clock to fit time) (time-no-earlier to fit time (inv .clock .plain) later));
+      as-it-stands = holds (run-with-floor floor turns) inv;
+      drained = λ to fit time later. holds (drain-to (read-zero to) (run-with-floor floor turns)) (drain-to-keeps inv (time-clock to fit time) (time-no-earlier to fit time (inv .clock .plain) later));
     }
 
 pub always-fair : AlwaysFair
@@ -42,4 +42,4 @@ unfolding edge-loads
 matched inv fresh = ap (λ (l : EdgeLoad). l .len) (inv .load-right fresh)
 
 pub always-matched : AlwaysMatched
-always-matched turns t fresh = matched (always-sound turns t) fresh
+always-matched floor turns held t fresh = matched (always-sound floor turns held t) fresh

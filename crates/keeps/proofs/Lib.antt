@@ -27,4 +27,5 @@ pub mod Always
 pub mod Unmoved
 pub mod Zeros
 pub mod Watching
+pub mod FloorStays
 pub mod Fillings

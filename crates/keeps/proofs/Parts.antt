@@ -15,10 +15,9 @@ use Rattle.rules.specs.declared.EdgeLoad.{EdgeLoad}
 use Rattle.rules.specs.declared.Clock.{Clock}
 use Rattle.rules.specs.declared.Flows.{Flows}
 use Rattle.rules.specs.Lists.{count, sum, Each, map-from}
-use Rattle.rules.specs.Tolerance.{default-tolerance}
 use Rattle.rules.specs.Records.{max-edges, max-slots, blank-edge, free, blank-completion, own-path, num-in-flight, before, tally-of}
 use Rattle.rules.specs.Clock.{crossings-by, counts-in-loads, edge-loads}
-use Rattle.rules.specs.Invariant.{ClockTime, SoundNext, SoundEdge, SoundSlot, Balanced, Invariant}
+use Rattle.rules.specs.Invariant.{ClockTime, SoundFloor, SoundNext, SoundEdge, SoundSlot, Balanced, Invariant}
 
 -- The time, when the last drain was, and what the last filling left beside it.
 pub record ClockSound (clock : Clock) : Type 0 where
@@ -65,7 +64,7 @@ pub record RatesSound (clock : Clock) (load : EdgeLoad) (slots : List Transfer) 
   pub few : clock .«rates_dirty» ≡ false → clock .rounds ≤ count (λ t. t .taken && ltb 0 (t .path .len)) slots
 
 pub record Parts (f : Flows) : Type 0 where
-  pub tolerance : f .tolerance ≡ default-tolerance
+  pub tolerance : SoundFloor (f .tolerance .floor)
   pub clock : ClockSound (f .clock)
   pub edges : EdgesSound (f .edges) (f .«num_edges»)
   pub queue : QueueSound (f .completed) (f .«num_completed»)

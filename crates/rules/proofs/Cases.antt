@@ -1,7 +1,8 @@
 -- The cases hold: the definitions, computed on the fresh simulator, give what each table says. Assumes nothing.
 use mathlib.Core.Path.{_≡_, refl}
 use mathlib.Core.Bool.{true}
-use Rattle.rules.specs.Cases.{CasesHold, holds, vault-door, collection, edge-limit, both-sides, crossing-by-crossing, lowest-first, stalled-read, watched-read, watched-latency, AtNoRate}
+use Rattle.rules.specs.Cases.{CasesHold, holds, vault-door, collection, edge-limit, both-sides, crossing-by-crossing, lowest-first, stalled-read, watched-read, watched-latency, AtNoRate, floor-cases, floor-holds, holds-coarsely, listed-early, latency-is-none, done-but-unlisted}
+use Rattle.rules.specs.Lists.{all}
 use Rattle.rules.proofs.Everything.{everything}
 
 -- the twelve that are marked
@@ -48,3 +49,19 @@ watched-latency-holds = refl
 pub at-no-rate : AtNoRate
 unfolding everything
 at-no-rate = (refl, refl)
+
+pub floors-hold : all floor-holds floor-cases ≡ true
+unfolding everything
+floors-hold = refl
+
+pub listed-early-holds : holds-coarsely listed-early ≡ true
+unfolding everything
+listed-early-holds = refl
+
+pub latency-is-none-holds : holds-coarsely latency-is-none ≡ true
+unfolding everything
+latency-is-none-holds = refl
+
+pub done-but-unlisted-holds : holds-coarsely done-but-unlisted ≡ true
+unfolding everything
+done-but-unlisted-holds = refl

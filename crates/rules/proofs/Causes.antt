@@ -5,6 +5,7 @@ use Rattle.rules.proofs.Everything.{everything}
 pub causes-ascend : CausesAscend
 unfolding everything
 causes-ascend = record {
+  with-floor = λ floor. tt;
   add-edge = λ capacity f. tt;
   widen = λ e amount f. tt;
   submit = λ id owner path bytes latency cap time f. tt;

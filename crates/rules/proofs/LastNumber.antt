@@ -4,10 +4,11 @@ use native.Mathlib.Omega.{arith}
 use mathlib.Core.Path.{refl}
 use Rattle.rules.specs.declared.Owner.{Owner}
 use Rattle.rules.specs.declared.Owner.the-variants.{Worker, Handoff, Write}
-use Rattle.rules.specs.Records.{fresh, tally-of, with-totals, on-tally}
+use Rattle.rules.specs.Records.{fresh, tally-of, with-totals, with-tolerance, on-tally}
 use Rattle.rules.specs.Invariant.{Invariant, Balanced}
 use Rattle.rules.specs.Cases.{submitted-before, LastNumber}
 use Rattle.rules.proofs.Everything.{everything}
+use Rattle.rules.proofs.Floors.{default-floor}
 use Rattle.rules.proofs.Fresh.{nought-summed, none-balanced, counted-keeps}
 
 -- what was counted is balanced by what was completed
@@ -24,10 +25,10 @@ balanced Write n h Handoff = none-balanced Handoff
 balanced Write n h Write = record { accounted = omega arith; fits = h; bytes = nought-summed }
 
 keeps : (owner : Owner) (n : ℕ) → n < 2 ^ 64 → Invariant (submitted-before owner n)
-unfolding on-tally with-totals
-keeps (Worker m) n h = counted-keeps _ (omega arith) (balanced (Worker m) n h)
-keeps Handoff n h = counted-keeps _ (omega arith) (balanced Handoff n h)
-keeps Write n h = counted-keeps _ (omega arith) (balanced Write n h)
+unfolding on-tally with-totals with-tolerance
+keeps (Worker m) n h = counted-keeps default-floor _ (omega arith) (balanced (Worker m) n h)
+keeps Handoff n h = counted-keeps default-floor _ (omega arith) (balanced Handoff n h)
+keeps Write n h = counted-keeps default-floor _ (omega arith) (balanced Write n h)
 
 pub last-number : LastNumber
 unfolding everything

@@ -11,6 +11,8 @@ pub mod Folds
 pub mod Fronts
 pub mod Routes
 pub mod Everything
+pub mod Floors
+pub mod ButForFloor
 pub mod Fresh
 pub mod Cases
 pub mod LastNumber

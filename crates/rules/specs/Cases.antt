@@ -23,9 +23,9 @@ use Rattle.rules.specs.declared.Call.the-variants.{Advance, Submit, Canc
 use Rattle.rules.specs.declared.Said.{Said}
 use Rattle.rules.specs.declared.Said.the-variants as Said-variants
 use Rattle.rules.specs.Lists.{all}
-use Rattle.rules.specs.Tolerance.{default-tolerance}
 use Rattle.rules.specs.Tolerance as Tolerance
 use Rattle.rules.specs.Records.{route, fresh, on-tally}
+use Rattle.rules.specs.Floors.{with-floor}
 use Rattle.rules.specs.TimeLeft.{remaining-in}
 use Rattle.rules.specs.Invariant.{Invariant}
 use Rattle.rules.specs.Histories.{Turn, after}
@@ -210,16 +210,24 @@ cases =
     ∷ [])
     ∷ []
 
--- 11: the tolerance at two clock times
-abbrev pub eps-cases : List (Float × Float)
+-- A floor, a clock time, and eps then.
+pub record EpsCase : Type 0 where
+  pub floor : Float
+  pub clock : Float
+  pub eps : Float
+
+-- 11: the tolerance at two clock times; and coarser floors at the latest clock, one that the clock's own part is above and one that it is not (02, P5)
+abbrev pub eps-cases : List EpsCase
 eps-cases =
-    (nought, nearest 1 1000000000000)
-    ∷ (whole (2 ^ 20), nearest 1 (2 ^ 30))
+    record { floor = Tolerance.F; clock = nought; eps = nearest 1 1000000000000 }
+    ∷ record { floor = Tolerance.F; clock = whole (2 ^ 20); eps = nearest 1 (2 ^ 30) }
+    ∷ record { floor = nearest 1 10000; clock = whole (2 ^ 40); eps = nearest 1 (2 ^ 10) }
+    ∷ record { floor = nearest 1 1000; clock = whole (2 ^ 40); eps = nearest 1 1000 }
     ∷ []
 
--- Whether eps at a clock time is the double that is expected.
-unfoldable pub eps-holds : Float × Float → Bool
-eps-holds c = eqb (bits-of (Tolerance.eps default-tolerance (c .0))) (bits-of (c .1))
+-- Whether eps is the double that is expected.
+unfoldable pub eps-holds : EpsCase → Bool
+eps-holds c = eqb (bits-of (Tolerance.eps (record { floor = c .floor }) (c .clock))) (bits-of (c .eps))
 
 -- What the twelve cases say, together.
 abbrev pub CasesHold : Type 0
@@ -373,6 +381,83 @@ abbrev pub AtNoRate : Type 0
 AtNoRate =
     (told-answer (remaining-in 1 Tolerance.F (without-rate Tolerance.B ∷ [])) ≡ told-answer (Value nought))
     × (told-answer (remaining-in 1 Tolerance.F (without-rate (next-up Tolerance.B) ∷ [])) ≡ told-answer CannotFinish)
+
+-- ---- floors
+
+-- A floor that is asked for, what is answered, and the floor of the simulator beside the answer; doubles by their bits. (02, P5)
+pub record FloorCase : Type 0 where
+  pub asked : ℕ
+  pub answer : Answer
+  pub floor : ℕ
+
+-- That floor is taken.
+abbrev taken : ℕ → FloorCase
+taken bits = record { asked = bits; answer = Done; floor = bits }
+
+-- That floor is refused, and the default stands.
+abbrev not-taken : ℕ → FloorCase
+not-taken bits = record { asked = bits; answer = Refused 1; floor = 0x3d71_9799_812d_ea11 }
+
+-- Both ends and the double next to each outside; NaN, the infinities, the zeros, a negative number, and one second. (02, P5)
+abbrev pub floor-cases : List FloorCase
+floor-cases =
+    taken 0x3d71_9799_812d_ea11
+    ∷ not-taken 0x3d71_9799_812d_ea10
+    ∷ taken 0x3f50_624d_d2f1_a9fc
+    ∷ not-taken 0x3f50_624d_d2f1_a9fd
+    ∷ not-taken 0x7ff8_0000_0000_0000
+    ∷ not-taken 0x7ff0_0000_0000_0000
+    ∷ not-taken 0xfff0_0000_0000_0000
+    ∷ not-taken 0
+    ∷ not-taken 0x8000_0000_0000_0000
+    ∷ not-taken 0xbd71_9799_812d_ea11
+    ∷ not-taken 0x3ff0_0000_0000_0000
+    ∷ []
+
+-- Whether a floor is taken or refused as expected.
+unfoldable pub floor-holds : FloorCase → Bool
+floor-holds c =
+    let made = with-floor (of-bits (c .asked)) in
+    same (told-answer (made .answer)) (told-answer (c .answer)) && eqb (bits-of (made .flows .tolerance .floor)) (c .floor)
+
+-- A table holds where it does so on a simulator with a floor of a millisecond. (02, P5)
+unfoldable pub holds-coarsely : List Step → Bool
+holds-coarsely steps = gives-all (with-floor (nearest 1 1000) .flows) steps
+
+-- Half a millisecond short of 10 ms.
+abbrev half-short : Float
+half-short = nearest 19 2000
+
+-- With a floor of a millisecond the read is listed half of one early, and its last half byte is never moved. (02, P5)
+abbrev pub listed-early : List Step
+listed-early =
+    new-edge 0 1000
+    ∷ sent 1 (0 ∷ []) 10 0 Uncapped
+    ∷ lending 6 (Advance half-short) (Listed 1) (0 ∷ 0 ∷ 1 ∷ lent-buffer 3)
+    ∷ Edge 0 says Said-variants.Edge (Found (record { capacity = whole 1000; «bytes_moved» = nearest 19 2; «busy_transfer_seconds» = half-short }))
+    ∷ []
+
+-- A latency of a millisecond is none then, and the double above it is one. (02, P5)
+abbrev pub latency-is-none : List Step
+latency-is-none =
+    submitting 1 (Worker 0) [] 0 (nearest 1 1000) Uncapped nought Done
+    ∷ submitting 2 (Worker 0) [] 0 (next-up (nearest 1 1000)) Uncapped nought Done
+    ∷ lists-one 0 1
+    ∷ []
+
+-- Settled half a millisecond before its end a read has no time left then, and yet the advance to the clock is quiet and lists nobody: next-done stays where the filling put it. (02, P5)
+abbrev pub done-but-unlisted : List Step
+done-but-unlisted =
+    new-edge 0 1000
+    ∷ sent 1 (0 ∷ []) 10 0 Uncapped
+    ∷ delay-is (After (nearest 1 100))
+    ∷ lending 6 (Advance half-short) (Listed 0) (lent-buffer 6)
+    ∷ Settle answers Done
+    ∷ current 1 (Value nought)
+    ∷ lending 6 (Advance half-short) (Listed 0) (lent-buffer 6)
+    ∷ delay-is (After (of-bits 0x3f40_624d_d2f1_aa00))
+    ∷ lending 6 (Advance (nearest 1 100)) (Listed 1) (0 ∷ 0 ∷ 1 ∷ lent-buffer 3)
+    ∷ []
 
 -- ---- the last number of a kind
 

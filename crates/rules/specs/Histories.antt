@@ -2,7 +2,7 @@
 use Prim.Native.Nat.{ℕ}
 use mathlib.Core.Bool.{Bool, true, _&&_}
 use mathlib.Core.List.{List, [], _∷_}
-use lib.Ieee.{binary64, fits}
+use lib.Ieee.{Float, binary64, fits}
 use Rattle.doubles.specs.Doubles.{read-zero}
 use Rattle.rules.specs.declared.Cap.{Cap}
 use Rattle.rules.specs.declared.Cap.the-variants.{AtMost, Uncapped}
@@ -15,6 +15,7 @@ use Rattle.rules.specs.declared.Said.the-variants as Said-variants
 use Rattle.rules.specs.declared.Made.{Made}
 use Rattle.rules.specs.Records.{contains}
 use Rattle.rules.specs.Refusals.{Lent, read-cap}
+use Rattle.rules.specs.Floors.{with-floor}
 use Rattle.rules.specs.Queue.{take-completed, owners-with-completions}
 use Rattle.rules.specs.Edges.{add-edge, widen}
 use Rattle.rules.specs.Submission.{submit-capped}
@@ -132,6 +133,10 @@ after t f = call (t .call) (t .path) f (t .buffer)
 unfoldable pub run : Flows → List Turn → Flows
 run f [] = f
 run f (t ∷ turns) = run (after t f .made .flows) turns
+
+-- The same from a simulator that was made with a floor, and where that is refused from the default one beside the refusal. (02, P5)
+abbrev pub run-with-floor : Float → List Turn → Flows
+run-with-floor floor turns = run (with-floor floor .flows) turns
 
 -- Each turn with what it left: what was said, the simulator then, and what the buffer then held. (02, P10)
 unfoldable pub journal : Flows → List Turn → List (Turn × Left)

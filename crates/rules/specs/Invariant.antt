@@ -21,7 +21,7 @@ use Rattle.rules.specs.declared.Completion.{Completion}
 use Rattle.rules.specs.declared.Tally.{Tally}
 use Rattle.rules.specs.declared.Flows.{Flows}
 use Rattle.rules.specs.Lists.{count, sum, Each}
-use Rattle.rules.specs.Tolerance.{default-tolerance}
+use Rattle.rules.specs.Tolerance.{F, max-floor}
 use Rattle.rules.specs.Records.{max-edges, max-path, max-slots, blank-edge, free, blank-completion, path-of, num-in-flight, before, owner-kind, tally-of}
 use Rattle.rules.specs.Clock.{edge-loads}
 
@@ -36,6 +36,12 @@ pub record Summed (x : Float) : Type 0 where
 pub record ClockTime (x : Float) : Type 0 where
   pub plain : Plain x
   pub bounded : T (x ≼ whole (2 ^ 40))
+
+-- A floor, from the default to the coarsest. (02, P5)
+pub record SoundFloor (x : Float) : Type 0 where
+  pub plain : Plain x
+  pub no-finer : T (F ≼ x)
+  pub no-coarser : T (x ≼ max-floor)
 
 -- A cap, where there is one, is plain.
 pub data SoundCap : Cap → Type 0 where
@@ -114,7 +120,7 @@ pub record Invariant (f : Flows) : Type 0 where
   pub drained-by-now : T (f .clock .«last_drain» ≼ f .clock .now)
   pub stale-drained : f .clock .«rates_dirty» ≡ true → f .clock .«last_drain» ≡ f .clock .now
   pub next-done : SoundNext (f .clock .«next_done_at»)
-  pub tolerance : f .tolerance ≡ default-tolerance
+  pub tolerance : SoundFloor (f .tolerance .floor)
   -- edges
   pub few-edges : f .«num_edges» ≤ max-edges
   pub edges : Each SoundEdge blank-edge (f .edges)

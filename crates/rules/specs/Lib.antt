@@ -5,6 +5,7 @@ pub mod Done
 pub mod Filling
 pub mod Clock
 pub mod Refusals
+pub mod Floors
 pub mod Queue
 pub mod Edges
 pub mod Submission

@@ -1,4 +1,4 @@
--- What is promised of every history of calls on a fresh simulator, refused calls among them. (01, How far each contract reaches) Statements only.
+-- What is promised of every history of calls on a fresh simulator, whatever its floor, refused calls among them. (01, How far each contract reaches; 02, P5) Statements only.
 use Prim.Native.Nat.{ℕ}
 use mathlib.Core.Path.{_≡_}
 use mathlib.Core.Logic.{_⊎_, _↔_}
@@ -13,38 +13,40 @@ use Rattle.rules.specs.declared.Cap.{Cap}
 use Rattle.rules.specs.declared.Delay.the-variants.{Never}
 use Rattle.rules.specs.declared.Transfer.{Transfer}
 use Rattle.rules.specs.declared.Answer.{Answer}
-use Rattle.rules.specs.declared.Answer.the-variants.{Unknown, CannotFinish, Value}
+use Rattle.rules.specs.declared.NextDone.the-variants.{Nobody}
+use Rattle.rules.specs.declared.Answer.the-variants.{Done, Unknown, CannotFinish, Value}
 use Rattle.rules.specs.declared.Outcome.{Outcome}
 use Rattle.rules.specs.declared.Seat.{Seat}
 use Rattle.rules.specs.declared.Flows.{Flows}
 use Rattle.rules.specs.declared.Call.{Call}
 use Rattle.rules.specs.Lists.{those, any, all}
-use Rattle.rules.specs.Tolerance.{B}
-use Rattle.rules.specs.Records.{free, fresh, path-of, has-id, contains}
+use Rattle.rules.specs.Tolerance.{B, F, default-tolerance}
+use Rattle.rules.specs.Records.{free, fresh, path-of, has-id, contains, with-clock, with-tolerance}
 use Rattle.rules.specs.Done.{done-eps, is-done, time-to-done}
 use Rattle.rules.specs.Filling.{Filling, num-unfrozen, start, load, rounds-until, recompute-rates}
 use Rattle.rules.specs.Clock.{ensure-rates, drain-to, drained-to-clock}
 use Rattle.rules.specs.Refusals.{answering, ascending, not-a-time, short-buffer}
+use Rattle.rules.specs.Floors.{floor-causes, with-floor}
 use Rattle.rules.specs.Edges.{add-edge-causes, widen-causes}
 use Rattle.rules.specs.Submission.{submit-causes}
 use Rattle.rules.specs.Advance.{advance-causes}
 use Rattle.rules.specs.Questions.{estimate-causes, edge-causes, mean-causes}
 use Rattle.rules.specs.TimeLeft.{settle, remaining-in, behind, remaining}
-use Rattle.rules.specs.Histories.{call, zeros-read, Turn, typed, after, run, journal}
+use Rattle.rules.specs.Histories.{call, zeros-read, Turn, typed, after, run, run-with-floor, journal}
 use Rattle.rules.specs.Invariant.{Invariant}
 use Rattle.rules.specs.Fair.{FairFilling}
 use Rattle.rules.specs.Tallies.{Tallied}
 use Rattle.rules.specs.Unmoved.{says-no, touch, unmoved, only-reads}
 
--- ---- over every history
+-- ---- over every history, from a simulator made with any floor; a floor that is refused gives the default one
 
 -- The invariant holds after it.
 abbrev pub AlwaysSound : Type 0
-AlwaysSound = (turns : List Turn) → T (all typed turns) → Invariant (run fresh turns)
+AlwaysSound = (floor : Float) (turns : List Turn) → T (fits binary64 floor) → T (all typed turns) → Invariant (run-with-floor floor turns)
 
 -- For each kind of owner, what was submitted is in flight, completed or cancelled.
 abbrev pub AlwaysTallied : Type 0
-AlwaysTallied = (turns : List Turn) → T (all typed turns) → (owner : Owner) → Tallied turns owner
+AlwaysTallied = (floor : Float) (turns : List Turn) → T (fits binary64 floor) → T (all typed turns) → (owner : Owner) → Tallied floor turns owner
 
 -- A fact of the simulator wherever a call may work its rates out. `ensure-rates` (Clock) is the one place that fills, and the calls ask it of two simulators only: this one as it stands, and
 -- this one drained to a time that an advance or a submission may name, its own clock among them.
@@ -54,7 +56,7 @@ pub record WhereverFilled (P : Flows → Type 0) (f : Flows) : Type 0 where
 
 -- Demand 3, whenever rates are worked out.
 abbrev pub AlwaysFair : Type 0
-AlwaysFair = (turns : List Turn) → T (all typed turns) → WhereverFilled FairFilling (run fresh turns)
+AlwaysFair = (floor : Float) (turns : List Turn) → T (fits binary64 floor) → T (all typed turns) → WhereverFilled FairFilling (run-with-floor floor turns)
 
 -- The filling of a simulator's transfers has ended with nobody unfrozen, and not because its rounds ran out. (01, Filling)
 abbrev pub AllFrozen : Flows → Type 0
@@ -62,7 +64,7 @@ AllFrozen f = num-unfrozen (recompute-rates (path-of f) (f .edges) (f .«in_flig
 
 -- A filling ends when none is unfrozen, whenever rates are worked out. (01, Filling)
 abbrev pub AlwaysEnds : Type 0
-AlwaysEnds = (turns : List Turn) → T (all typed turns) → WhereverFilled AllFrozen (run fresh turns)
+AlwaysEnds = (floor : Float) (turns : List Turn) → T (fits binary64 floor) → T (all typed turns) → WhereverFilled AllFrozen (run-with-floor floor turns)
 
 -- Whether a seat has load on its path, on an edge that the filling knows. (02, P7)
 abbrev pub load-on-path : (Transfer → List ℕ) → Filling → Seat → Bool
@@ -74,11 +76,11 @@ LoadedThroughout f = (n : ℕ) → let g = rounds-until (path-of f) n (start (pa
 
 -- So it is whenever rates are worked out: while somebody is unfrozen a round has an edge with load, and its share to go by. (02, P7)
 abbrev pub AlwaysLoaded : Type 0
-AlwaysLoaded = (turns : List Turn) → T (all typed turns) → WhereverFilled LoadedThroughout (run fresh turns)
+AlwaysLoaded = (floor : Float) (turns : List Turn) → T (fits binary64 floor) → T (all typed turns) → WhereverFilled LoadedThroughout (run-with-floor floor turns)
 
 -- While rates are not stale there are as many loads as edges, so that a quiet advance need not ask. (02, P7)
 abbrev pub AlwaysMatched : Type 0
-AlwaysMatched = (turns : List Turn) → T (all typed turns) → let f = run fresh turns in f .clock .«rates_dirty» ≡ false → f .«edge_load» .len ≡ f .«num_edges»
+AlwaysMatched = (floor : Float) (turns : List Turn) → T (fits binary64 floor) → T (all typed turns) → let f = run-with-floor floor turns in f .clock .«rates_dirty» ≡ false → f .«edge_load» .len ≡ f .«num_edges»
 
 -- ---- over every simulator with the invariant, and so over every history
 
@@ -141,8 +143,28 @@ pub record SplitInTwo : Type 0 where
   pub answer : (id : ℕ) (f : Flows) → remaining id (settle f .flows) .answer ≡ estimate-remaining id f .answer
   pub current : (f : Flows) → behind (settle f .flows .clock) ≡ false
 
+-- A simulator made with the default floor is the one that was given none. (02, P5)
+abbrev pub NewHasDefault : Type 0
+NewHasDefault = with-floor F ≡ answering Done fresh
+
+-- No call changes the floor: it stays what the simulator was made with. (02, P5)
+abbrev pub FloorStays : Type 0
+FloorStays = (f : Flows) (turns : List Turn) → run f turns .tolerance ≡ f .tolerance
+
+-- What two simulators that are equal but for the floor share: all but the floor, and next-done, which is told by it. (02, P5)
+abbrev pub but-for-floor : Flows → Flows
+but-for-floor f =
+    with-tolerance default-tolerance
+    (with-clock (record { now = f .clock .now; «last_drain» = f .clock .«last_drain»; «rates_dirty» = f .clock .«rates_dirty»; «next_done_at» = Nobody; rounds = f .clock .rounds }) f)
+
+-- Rates do not depend on the floor: two such simulators, brought up to date or drained to a time, are such again, and so have equal rates and rounds. (02, P5)
+pub record RatesWithoutFloor : Type 0 where
+  pub up-to-date : (f g : Flows) → but-for-floor f ≡ but-for-floor g → but-for-floor (ensure-rates f) ≡ but-for-floor (ensure-rates g)
+  pub drained : (to : Float) (f g : Flows) → but-for-floor f ≡ but-for-floor g → but-for-floor (drain-to to f) ≡ but-for-floor (drain-to to g)
+
 -- The causes of each call ascend, so that the first that applies is the lowest. (01, Numbers)
 pub record CausesAscend : Type 0 where
+  pub with-floor : (floor : Float) → T (ascending (floor-causes floor))
   pub add-edge : (capacity : Float) (f : Flows) → T (ascending (add-edge-causes capacity f))
   pub widen : (e : ℕ) (amount : Float) (f : Flows) → T (ascending (widen-causes e amount f))
   pub submit : (id : ℕ) (owner : Owner) (path : List ℕ) (bytes : ℕ) (latency : Float) (cap : Cap) (time : Float) (f : Flows) → T (ascending (submit-causes id owner path bytes latency cap time f))

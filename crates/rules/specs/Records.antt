@@ -6,7 +6,7 @@
 --   in_flight  at slot 0 `taken`, id 7, path hops 0 0 0 0 0 0 0 0 of which the first len = 2 count;  `free` at slots 1 to 255
 --   completed  owner `Worker 3` and id 9 at place 0, `blank-completion` at places 1 to 255;  num_completed  1
 --   edge_load  2 at place 0, 0 at places 1 to 63, once rates are up to date;  len  1
--- Prepared for later requests, and of no other use yet: the tolerance as a part of the state; `path-of`, which gets the simulator and reads nothing of it but the transfer's own
+-- Prepared for later requests, and of no other use yet: `path-of`, which gets the simulator and reads nothing of it but the transfer's own
 -- path; `counts-in-loads` (Clock), which all in flight pass; the bound on all paths together (`path-room`, Invariant).
 use Prim.Native.Nat.{ℕ, _-_}
 use mathlib.Core.Bool.{Bool, true, false, _&&_, _||_, cond}
@@ -27,6 +27,7 @@ use Rattle.rules.specs.declared.Tally.{Tally}
 use Rattle.rules.specs.declared.Totals.{Totals}
 use Rattle.rules.specs.declared.EdgeLoad.{EdgeLoad}
 use Rattle.rules.specs.declared.Clock.{Clock}
+use Rattle.rules.specs.declared.Tolerance.{Tolerance}
 use Rattle.rules.specs.declared.Flows.{Flows}
 use Rattle.rules.specs.Lists.{count, any}
 use Rattle.rules.specs.Tolerance.{default-tolerance}
@@ -181,6 +182,10 @@ with-clock clock f = record { edges = f .edges; «num_edges» = f .«num_edges»
 -- Another peak, and other tallies.
 unfoldable pub with-totals : Totals → Flows → Flows
 with-totals totals f = record { edges = f .edges; «num_edges» = f .«num_edges»; «in_flight» = f .«in_flight»; completed = f .completed; «num_completed» = f .«num_completed»; «edge_load» = f .«edge_load»; clock = f .clock; totals = totals; tolerance = f .tolerance }
+
+-- Another tolerance. (02, P5)
+unfoldable pub with-tolerance : Tolerance → Flows → Flows
+with-tolerance tolerance f = record { edges = f .edges; «num_edges» = f .«num_edges»; «in_flight» = f .«in_flight»; completed = f .completed; «num_completed» = f .«num_completed»; «edge_load» = f .«edge_load»; clock = f .clock; totals = f .totals; tolerance = tolerance }
 
 -- The clock moved to another time. (01, Clock)
 unfoldable pub at-time : Float → Flows → Flows

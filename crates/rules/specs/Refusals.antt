@@ -5,13 +5,14 @@ use mathlib.Core.List.{List, [], _∷_}
 use lib.Dec.{ltb, leb}
 use lib.ListN.{length}
 use lib.Ieee.{Float}
-use Rattle.doubles.specs.Doubles.{_≺_, nought, whole, is-finite, read-zero}
+use Rattle.doubles.specs.Doubles.{_≺_, _≼_, nought, whole, is-finite, read-zero}
 use Rattle.rules.specs.declared.Cap.{Cap}
 use Rattle.rules.specs.declared.Cap.the-variants.{AtMost, Uncapped}
 use Rattle.rules.specs.declared.Answer.{Answer}
 use Rattle.rules.specs.declared.Answer.the-variants.{Refused}
 use Rattle.rules.specs.declared.Outcome.{Outcome}
 use Rattle.rules.specs.declared.Flows.{Flows}
+use Rattle.rules.specs.Tolerance.{F, max-floor}
 use Rattle.rules.specs.Records.{max-path, max-slots, num-in-flight}
 
 -- ---- refusing
@@ -71,6 +72,10 @@ not-a-time x = not-an-amount x || whole (2 ^ 40) ≺ x
 unfoldable pub not-a-cap : Cap → Bool
 not-a-cap (AtMost c) = not-an-amount c
 not-a-cap Uncapped = false
+
+-- 1: no floor, which lies from a millionth of a millionth to a thousandth of a second, both included. (02, P5)
+unfoldable pub not-a-floor : Float → Bool
+not-a-floor x = not (F ≼ x && x ≼ max-floor)
 
 -- 3: a number that no edge has. (01, Numbers)
 unfoldable pub no-such-edge : Flows → ℕ → Bool

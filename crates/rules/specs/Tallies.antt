@@ -4,6 +4,7 @@ use mathlib.Core.Path.{_≡_}
 use mathlib.Core.Bool.{Bool, true, false, not, cond}
 use mathlib.Core.List.{List, [], _∷_, _++_, map, foldl}
 use lib.Dec.{eqb}
+use lib.Ieee.{Float}
 use Rattle.rules.specs.declared.Owner.{Owner}
 use Rattle.rules.specs.declared.Answer.{Answer}
 use Rattle.rules.specs.declared.Answer.the-variants.{Done, Added, Listed, Nothing, Unknown, CannotFinish, Value, Due, Refused}
@@ -13,9 +14,10 @@ use Rattle.rules.specs.declared.Call.the-variants.{Advance, Submit, Canc
 use Rattle.rules.specs.declared.Said.{Said}
 use Rattle.rules.specs.declared.Said.the-variants as Said-variants
 use Rattle.rules.specs.Lists.{count, those}
-use Rattle.rules.specs.Records.{fresh, owner-kind, tally-of}
+use Rattle.rules.specs.Records.{owner-kind, tally-of}
+use Rattle.rules.specs.Floors.{with-floor}
 use Rattle.rules.specs.Invariant.{of-kind}
-use Rattle.rules.specs.Histories.{Turn, after, run}
+use Rattle.rules.specs.Histories.{Turn, after, run-with-floor}
 
 -- A transfer as the calls name it: its id, and the number of its owner's kind.
 pub record Entry : Type 0 where
@@ -129,9 +131,9 @@ unfoldable pub notes : Flows → List Turn → Ledger → Ledger
 notes f [] l = l
 notes f (t ∷ turns) l = let left = after t f in notes (left .made .flows) turns (noted (t .call) (left .made .said) (left .buffer) l)
 
--- All that is noted of turns on a fresh simulator.
-abbrev pub ledger : List Turn → Ledger
-ledger turns = notes fresh turns nothing-noted
+-- All that is noted of turns on a simulator made with that floor.
+abbrev pub ledger : Float → List Turn → Ledger
+ledger floor turns = notes (with-floor floor .flows) turns nothing-noted
 
 -- Whether a kind is the owner's.
 abbrev pub kind-of : Owner → ℕ → Bool
@@ -145,10 +147,10 @@ number-of owner kinds = count (kind-of owner) kinds
 abbrev pub open-of : Owner → List Entry → ℕ
 open-of owner entries = count (λ e. kind-of owner (e .kind)) entries
 
--- After any turns on a fresh simulator, for the kind of any owner: the notes balance, and the simulator's counters say what the notes say.
-pub record Tallied (turns : List Turn) (owner : Owner) : Type 0 where
-  pub balance : number-of owner (ledger turns .submitted) ≡ open-of owner (ledger turns .in-flight) + number-of owner (ledger turns .completed) + number-of owner (ledger turns .cancelled)
-  pub submitted : tally-of owner (run fresh turns .totals) .submitted ≡ number-of owner (ledger turns .submitted)
-  pub completed : tally-of owner (run fresh turns .totals) .completed ≡ number-of owner (ledger turns .completed)
-  pub cancelled : tally-of owner (run fresh turns .totals) .cancelled ≡ number-of owner (ledger turns .cancelled)
-  pub in-flight : count (of-kind (owner-kind owner)) (run fresh turns .«in_flight») ≡ open-of owner (ledger turns .in-flight)
+-- After any turns on a simulator made with that floor, for the kind of any owner: the notes balance, and the simulator's counters say what the notes say.
+pub record Tallied (floor : Float) (turns : List Turn) (owner : Owner) : Type 0 where
+  pub balance : number-of owner (ledger floor turns .submitted) ≡ open-of owner (ledger floor turns .in-flight) + number-of owner (ledger floor turns .completed) + number-of owner (ledger floor turns .cancelled)
+  pub submitted : tally-of owner (run-with-floor floor turns .totals) .submitted ≡ number-of owner (ledger floor turns .submitted)
+  pub completed : tally-of owner (run-with-floor floor turns .totals) .completed ≡ number-of owner (ledger floor turns .completed)
+  pub cancelled : tally-of owner (run-with-floor floor turns .totals) .cancelled ≡ number-of owner (ledger floor turns .cancelled)
+  pub in-flight : count (of-kind (owner-kind owner)) (run-with-floor floor turns .«in_flight») ≡ open-of owner (ledger floor turns .in-flight)

@@ -8,11 +8,15 @@ use Rattle.rules.specs.declared.Tolerance.{Tolerance}
 abbrev pub B : Float
 B = nearest 1 1000000
 
--- Seconds that count as none at any clock: the double nearest a millionth of a millionth. (01, Tolerance)
+-- Seconds that count as none at any clock where no other floor was given: the double nearest a millionth of a millionth. No floor is finer. (01, Tolerance; 02, P5)
 abbrev pub F : Float
 F = nearest 1 1000000000000
 
--- The tolerance of every simulator. (01, Tolerance)
+-- The coarsest floor there is: the double nearest a thousandth. (02, P5)
+abbrev pub max-floor : Float
+max-floor = nearest 1 1000
+
+-- The tolerance of a simulator that was given none. (01, Tolerance)
 abbrev pub default-tolerance : Tolerance
 default-tolerance = record { floor = F }
 

@@ -2,6 +2,8 @@
 ghost use mathlib.Core.Path.{_≡_};
 ghost use Rattle.rules.specs.Tolerance.{eps, default-tolerance};
 ghost use Rattle.rules.specs.Records.{free, fresh};
+ghost use Rattle.rules.specs.Refusals.{not-a-floor};
+ghost use Rattle.rules.specs.Floors.{with-floor};
 ghost use Rattle.rules.specs.Invariant.{Invariant};
 
 // Who a transfer belongs to, and so which queue its completion waits in.
@@ -237,8 +239,10 @@ pub enum Verdict {
 impl Tolerance {
     // Bytes left that count as none.
     pub const B: f64 = 1e-6;
-    // Seconds that count as none, whatever the clock says.
+    // Seconds that count as none, whatever the clock says, where no other floor was given; no floor is finer.
     pub const F: f64 = 1e-12;
+    // No floor is coarser.
+    pub const MAX_FLOOR: f64 = 1e-3;
 
     // The tolerance of a simulator that was not given another.
     pub fn new() -> Tolerance
@@ -246,6 +250,17 @@ impl Tolerance {
     {
         Tolerance {
             floor: Tolerance::F,
+        }
+    }
+
+    // No floor from 1e-12 to 1e-3, both included; a NaN is none.
+    fn not_a_floor(floor: f64) -> bool
+        ensures { λ r. ⌜ r ≡ not-a-floor floor ⌝ }
+    {
+        if Tolerance::F <= floor {
+            !(floor <= Tolerance::MAX_FLOOR)
+        } else {
+            true
         }
     }
 
@@ -325,6 +340,25 @@ impl Flows {
                 write: none,
             },
             tolerance: Tolerance::new(),
+        }
+    }
+
+    // The same with a floor of its own, which nothing changes from then on; beside a refusal stands the default one.
+    pub fn with_floor(floor: f64) -> Outcome
+        ensures exactly { λ r. ⌜ r ≡ with-floor floor ⌝ }
+        ensures sound { λ r. ⌜ Invariant (r .flows) ⌝ }
+    {
+        let mut flows = Flows::new();
+        if Tolerance::not_a_floor(floor) {
+            return Outcome {
+                answer: Answer::Refused(1),
+                flows: flows,
+            };
+        }
+        flows.tolerance.floor = floor;
+        Outcome {
+            answer: Answer::Done,
+            flows: flows,
         }
     }
 }

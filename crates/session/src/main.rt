@@ -1,13 +1,18 @@
 // Reads a script of calls, from the file that its argument names or from standard input, makes each on the simulator and prints the answers.
 ghost use Prim.Native.Nat.{_≤_};
 ghost use mathlib.Core.Path.{_≡_};
+ghost use mathlib.Core.Bool.{cond};
 ghost use lib.ListN.{length};
+ghost use Rattle.rules.specs.Refusals.{not-a-floor};
+ghost use Rattle.rules.specs.Floors.{with-floor};
 ghost use Rattle.rules.specs.Histories.{call as the-call};
 ghost use Rattle.rules.specs.Invariant.{Invariant};
 use libc::STDIN_FILENO;
+use rules::Answer;
 use rules::Call;
 use rules::Flows;
 use session_asked::Ask;
+use session_fields::named;
 use session_pages::put_text;
 use session_words::Line;
 
@@ -205,6 +210,7 @@ fn answered(flows: Flows, text: &[u8], len: usize, page: &mut [u8; 65536], at: u
             let flows = Flows::new();
             Next { flows, at }
         }
+        Ask::NewWith(floor) => renewed(flows, floor, page, at),
         Ask::Make(call) => {
             let hops = request.hops;
             let places = request.places;
@@ -232,6 +238,26 @@ fn answered(flows: Flows, text: &[u8], len: usize, page: &mut [u8; 65536], at: u
             Next { flows, at }
         }
     }
+}
+
+// A fresh simulator with a floor of its own; where that is refused the one before stays.
+fn renewed(flows: Flows, floor: f64, page: &mut [u8; 65536], at: usize) -> Next
+    requires { ⌜ Invariant flows ⌝ }
+    requires { ⌜ at ≤ 49152 ⌝ }
+    ensures exactly { λ r. ⌜ r .flows ≡ cond (not-a-floor floor) flows (with-floor floor .flows) ⌝ }
+    ensures sound { λ r. ⌜ Invariant (r .flows) ⌝ }
+    ensures within { λ r. ⌜ r .at ≤ 65536 ⌝ }
+{
+    let fresh = Flows::with_floor(floor);
+    let answer = fresh.answer;
+    let Answer::Refused(n) = answer else {
+        let at = put_text(page, at, b"done\n");
+        let flows = fresh.flows;
+        return Next { flows, at };
+    };
+    let at = named(page, at, b"refused", n as u64);
+    let at = put_text(page, at, b"\n");
+    Next { flows, at }
 }
 
 // A call made and told, its path and its buffer cut to their lengths.

@@ -14,8 +14,9 @@ use session_numbers::Short;
 // What a line asks for: a call of the simulator, or what the program makes of several, or of none.
 pub enum Ask {
     Malformed,
-    // A fresh simulator.
+    // A fresh simulator, with the default floor or with that one.
     New,
+    NewWith(f64),
     Make(Call),
     // From completion to completion up to a time, or until nobody is ever done.
     RunUntil(f64),
@@ -109,11 +110,14 @@ fn read_plain(name: &[u8], line: &[u8], at: usize) -> Ask {
     read_short(name, line, at)
 }
 
-// The calls with one number or none.
+// The calls with one word or none.
 fn read_short(name: &[u8], line: &[u8], at: usize) -> Ask {
     let word = session_words::next_word(line, at);
     if word.start == word.end {
         return read_bare(name);
+    }
+    if check::same(name, b"new") {
+        return new_with(line, at);
     }
     let Last::Only(id) = last_number(line, at) else {
         return Ask::Malformed;
@@ -272,6 +276,13 @@ fn mean_in_flight(line: &[u8], at: usize) -> Ask {
         return Ask::Malformed;
     };
     alone(line, at, Ask::Make(Call::MeanInFlight(edge, until)))
+}
+
+fn new_with(line: &[u8], at: usize) -> Ask {
+    let RealWord::RealTo(floor, at) = session_numbers::double_at(line, at) else {
+        return Ask::Malformed;
+    };
+    alone(line, at, Ask::NewWith(floor))
 }
 
 fn run_until(line: &[u8], at: usize) -> Ask {

@@ -9,6 +9,7 @@ use rules::Flows;
 use rules::NextDone;
 use rules::Route;
 use rules::Tally;
+use rules::Tolerance;
 use rules::Totals;
 use rules::Transfer;
 use session_fields::named;
@@ -27,8 +28,10 @@ pub fn dump(flows: Flows, page: &mut [u8; 65536], at: usize) -> usize
 {
     let clock = flows.clock;
     let totals = flows.totals;
+    let tolerance = flows.tolerance;
     let next = times(page, at, clock);
     let next = sizes(page, next, flows);
+    let next = floor_and_drain(page, next, tolerance, clock);
     let next = kinds(page, next, totals);
     let next = edges(page, next, flows);
     let next = slots(page, next, flows);
@@ -65,14 +68,21 @@ fn next_done_field(page: &mut [u8; 65536], at: usize, next_done: NextDone) -> us
 fn sizes(page: &mut [u8; 65536], at: usize, flows: Flows) -> usize
     requires { ⌜ Invariant flows ⌝ }
     requires { ⌜ at ≤ 49400 ⌝ }
-    ensures { λ r. ⌜ r ≤ 49600 ⌝ }
+    ensures { λ r. ⌜ r ≤ 49520 ⌝ }
 {
     let totals = flows.totals;
-    let clock = flows.clock;
     let next = named(page, at, b" edges", flows.num_edges as u64);
     let next = named(page, next, b" flight", flows::num_in_flight(flows) as u64);
     let next = named(page, next, b" queued", flows.num_completed as u64);
-    let next = named(page, next, b" peak", totals.peak_in_flight as u64);
+    named(page, next, b" peak", totals.peak_in_flight as u64)
+}
+
+fn floor_and_drain(page: &mut [u8; 65536], at: usize, tolerance: Tolerance, clock: Clock) -> usize
+    requires { ⌜ at ≤ 49520 ⌝ }
+    ensures { λ r. ⌜ r ≤ 49600 ⌝ }
+{
+    let next = put_text(page, at, b" floor");
+    let next = spaced_double(page, next, tolerance.floor);
     let next = put_text(page, next, b" drained");
     let next = spaced_double(page, next, clock.last_drain);
     put_text(page, next, b"\n")

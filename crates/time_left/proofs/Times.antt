@@ -20,18 +20,18 @@ use Rattle.rules.specs.declared.Delay.{Delay}
 use Rattle.rules.specs.declared.Delay.the-variants.{After, Never}
 use Rattle.rules.specs.declared.Transfer.{Transfer}
 use Rattle.rules.specs.declared.Flows.{Flows}
-use Rattle.rules.specs.Tolerance.{B, F, eps}
+use Rattle.rules.specs.Tolerance.{B, eps}
 use Rattle.rules.specs.Done.{done-eps, is-done, time-to-done}
-use Rattle.rules.specs.Invariant.{ClockTime, SoundTransfer, Invariant}
+use Rattle.rules.specs.Invariant.{ClockTime, SoundFloor, SoundTransfer, Invariant}
+use Rattle.rules.proofs.Floors.{default-floor}
 
 -- ---- eps
-floor-plain : Plain F
-unfolding plain fits round
-floor-plain = record { is-plain = tt; is-held = tt }
-
-floor-above : T (nought ≺ F)
-unfolding lt round ofBits
-floor-above = tt
+-- no floor is finer than the default, and that is above 0
+floor-above : {x : Float} → SoundFloor x → exact nought < exact x
+floor-above floor =
+    let h = lt→exact nought-plain (default-floor .plain) (unfold lt round ofBits in tt) in
+    let k = le→exact (default-floor .plain) (floor .plain) (floor .no-finer) in
+    omega arith
 
 -- a step of a double at 1, as eps takes it
 step-plain : Plain (nearest 1 (2 ^ 52))
@@ -67,13 +67,13 @@ module _ {clock : Float} (c : ClockTime clock) where
 module _ {f : Flows} (inv : Invariant f) where
   pub eps-plain : Plain (done-eps f)
   unfolding done-eps eps
-  eps-plain = rw (inv .tolerance) (larger-plain (steps-plain (inv .clock)) floor-plain)
+  eps-plain = larger-plain (steps-plain (inv .clock)) (inv .tolerance .plain)
 
   pub eps-above : T (nought ≺ done-eps f)
   unfolding done-eps eps
   eps-above =
       exact→lt nought-plain eps-plain
-      (rw (inv .tolerance, larger-exact (steps-plain (inv .clock)) floor-plain) (let h = lt→exact nought-plain floor-plain floor-above in omega arith))
+      (rw (larger-exact (steps-plain (inv .clock)) (inv .tolerance .plain)) (omega (arith, floor-above (inv .tolerance))))
 
 below-itself : T (nought ≺ nought) → ⊥
 below-itself h = let k : exact nought < exact nought = lt→exact nought-plain nought-plain h in omega arith

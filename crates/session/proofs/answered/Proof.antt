@@ -48,6 +48,12 @@ new-requires c κs = search needs
 enum-known-ask : tie.Need-enum-known-ask
 enum-known-ask c = search needs
 
+renewed-requires : tie.Need-renewed-requires
+renewed-requires c κs = search needs
+
+enum-known-ask-2 : tie.Need-enum-known-ask-2
+enum-known-ask-2 c = search needs
+
 array-share-prefix-path : tie.Need-array-share-prefix-path
 array-share-prefix-path c = search needs
 
@@ -63,8 +69,8 @@ slice-aggregate-made-2 c = part _ (c .before .before .before .before .before .be
 made-requires : tie.Need-made-requires
 made-requires c κs = (search needs, (within (c .before .before .before .before .before .before .before .read .result .places), search needs))
 
-enum-known-ask-2 : tie.Need-enum-known-ask-2
-enum-known-ask-2 c = search needs
+enum-known-ask-3 : tie.Need-enum-known-ask-3
+enum-known-ask-3 c = search needs
 
 run-until-requires : tie.Need-run-until-requires
 run-until-requires c κs = search needs
@@ -75,8 +81,8 @@ enum-told-3 c = search needs
 finish-requires : tie.Need-finish-requires
 finish-requires c κs = search needs
 
-enum-known-ask-3 : tie.Need-enum-known-ask-3
-enum-known-ask-3 c = search needs
+enum-known-ask-4 : tie.Need-enum-known-ask-4
+enum-known-ask-4 c = search needs
 
 look-requires : tie.Need-look-requires
 look-requires c κs = search needs
@@ -99,6 +105,9 @@ returns-5 c = search needs
 returns-6 : tie.Need-returns-6
 returns-6 c = search needs
 
+returns-7 : tie.Need-returns-7
+returns-7 c = search needs
+
 pub answered-spec : {M : Type 1} → statement M
 answered-spec =
     tie.close
@@ -114,20 +123,23 @@ answered-spec =
     put-text-requires-2
     new-requires
     enum-known-ask
+    renewed-requires
+    enum-known-ask-2
     array-share-prefix-path
     slice-aggregate-made
     array-borrow-prefix-lent
     slice-aggregate-made-2
     made-requires
-    enum-known-ask-2
+    enum-known-ask-3
     run-until-requires
     enum-told-3
     finish-requires
-    enum-known-ask-3
+    enum-known-ask-4
     look-requires
     returns
     returns-2
     returns-3
     returns-4
     returns-5
-    returns-6)
+    returns-6
+    returns-7)
