@@ -70,7 +70,7 @@ pub const FAULTS: &[Fault] = &[
     fault("mean_at_zero", "mean divides by zero", &[("if until > 0.0 {", "if until >= 0.0 {")]),
     fault("share_zero_estimates", "a share of 0 is divided by", &[("if share <= 0.0 ||", "if share < 0.0 ||")]),
     fault("estimate_cap_zero", "an estimate divides by cap 0", &[("if cap > 0.0 =>", "if cap >= 0.0 =>")]),
-    fault("eps_smaller", "eps is the smaller of the two", &[("EPSILON).max(DONE_EPSILON_SECONDS)", "EPSILON).min(DONE_EPSILON_SECONDS)")]),
+    fault("eps_smaller", "eps is the smaller of the two", &[("EPSILON).max(self.floor)", "EPSILON).min(self.floor)")]),
     fault("eps_without_4", "eps lacks the factor 4", &[("abs() * 4.0 *", "abs() * 1.0 *")]),
     fault("next_done_last", "next-done is the largest time", &[(".min_by(", ".max_by(")]),
     fault("quiet_needs_later", "an advance to the clock itself is never quiet", &[("now >= self.now", "now > self.now")]),
@@ -138,7 +138,7 @@ pub const FAULTS: &[Fault] = &[
     fault(
         "remaining_old_eps",
         "remaining takes eps at the last drain",
-        &[("Self::time_to_done(t, self.done_eps()).map(outward)", "Self::time_to_done(t, (t.last_update * 4.0 * f64::EPSILON).max(DONE_EPSILON_SECONDS)).map(outward)")],
+        &[("Self::time_to_done(t, self.done_eps()).map(outward)", "Self::time_to_done(t, (t.last_update * 4.0 * f64::EPSILON).max(self.floor)).map(outward)")],
     ),
     fault(
         "remaining_passed_off",

@@ -46,6 +46,8 @@ pub trait Simulator {
     /// The same state once more.
     fn copy(&self) -> Box<dyn Simulator>;
 
+    /// Puts a fresh simulator in its place, with a floor of eps where one is given: the Rust as given goes on with its own. A floor out of range changes nothing, and the answer is no.
+    fn begin(&mut self, floor: Option<Double>) -> bool;
     fn add_edge(&mut self, capacity: Double) -> usize;
     fn widen(&mut self, edge: usize, amount: Double);
     fn submit(&mut self, submission: &Submission);
@@ -69,6 +71,8 @@ pub trait Simulator {
     fn now(&self) -> Double;
     fn stale(&self) -> bool;
     fn next_done(&self) -> Option<Double>;
+    /// The seconds that count as none at any clock.
+    fn floor(&self) -> Double;
     /// When everybody was last drained. The patched copies record it; as given it is read off whoever is in flight, and where nobody is there is none.
     fn last_drain(&self) -> Option<Double>;
     /// Rounds of the last filling; only the patched copies count them.

@@ -99,6 +99,17 @@ pub fn record_drains(text: &str) -> Result<String, String> {
     substitute(&text, drain, &format!("{drain}        self.last_drain = now;\n"))
 }
 
+/// Makes the floor of eps a setting: a field, in a fresh simulator the Rust's constant, that is read where the constant was. Elsewhere nothing may read the constant.
+pub fn set_floor(text: &str) -> Result<String, String> {
+    let field = "pub struct Flows {\n";
+    let fresh = "    pub fn new() -> Self {\n        Self::default()\n";
+    let text = substitute(text, field, &format!("{field}    floor: f64,\n"))?;
+    let text = substitute(&text, ".max(DONE_EPSILON_SECONDS)", ".max(self.floor)")?;
+    let code: String = text.lines().map(|line| line.split("//").next().unwrap_or(line)).collect();
+    substitute(&code, "DONE_EPSILON_SECONDS", "")?;
+    substitute(&text, fresh, &fresh.replace("Self::default()", "Self { floor: DONE_EPSILON_SECONDS, ..Self::default() }"))
+}
+
 /// Ends the program with a message where the recorded time is read and some transfer in flight was last drained at another. Stands among the accessors.
 pub fn mark_drains(accessors: &str) -> Result<String, String> {
     let read = "fn last_drain_of(flows: &Flows) -> Option<Double> {\n";
@@ -222,6 +233,20 @@ mod tests {
         assert_eq!(lines[..3], ["pub struct Flows {", "last_drain: f64,", "now: f64,"]);
         assert_eq!(lines[5..], ["return;", "}", "self.last_drain = now;", "if now > self.now {"]);
         assert!(record_drains("another flows.rs").is_err());
+    }
+
+    #[test]
+    fn the_floor_is_read_where_the_constant_was() {
+        let text = "const DONE_EPSILON_SECONDS: f64 = 1e-12;\npub struct Flows {\n    now: f64,\n}\n    pub fn new() -> Self {\n        Self::default()\n    }\n\
+                    /// `DONE_EPSILON_SECONDS` at least\n(self.now * 4.0).max(DONE_EPSILON_SECONDS)\n";
+        let set = set_floor(text).unwrap();
+        let lines: Vec<&str> = set.lines().map(str::trim).collect();
+        assert_eq!(lines[1..4], ["pub struct Flows {", "floor: f64,", "now: f64,"]);
+        assert_eq!(lines[6], "Self { floor: DONE_EPSILON_SECONDS, ..Self::default() }");
+        assert_eq!(lines[9], "(self.now * 4.0).max(self.floor)");
+        assert!(set_floor(&format!("{text}left <= DONE_EPSILON_SECONDS\n")).is_err());
+        assert!(set_floor(&format!("{text}(2.0).max(DONE_EPSILON_SECONDS)\n")).is_err());
+        assert!(set_floor("another flows.rs").is_err());
     }
 
     #[test]
