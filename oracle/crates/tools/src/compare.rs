@@ -43,8 +43,9 @@ pub fn compare(left: &Program, right: &Program, lines: &[String], shrinking: u64
     Ok(Some(Difference { lines, left, right, seen_at: at + 1 }))
 }
 
+/// With the floor left out: one that is given may be refused, and what went before then counts.
 fn is_new(line: &str) -> bool {
-    matches!(read_line(line), Line::Call(Call::New))
+    matches!(read_line(line), Line::Call(Call::New { floor: None }))
 }
 
 fn first_difference(left: &Program, right: &Program, lines: &[String]) -> Result<Option<usize>, String> {

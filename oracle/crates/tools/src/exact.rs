@@ -6,11 +6,13 @@
 //! 2. no accepted `cancel` of a known id, `widen` or `add_edge` came while some transfer was last drained before the clock,
 //!    as quiet advances leave it.
 //!
+//! Such a `new` has the floor that the Rust has, left out or given; behind one with another floor nothing lies in the domain.
 //! `run_until` and `finish` count as the calls that they are made of. Calls that are refused or can't be read change nothing and stay in. The first call outside takes the rest of its
 //! sequence out with it.
 
 use crate::script::{Call, Line};
 use crate::session::Session;
+use crate::tolerances::F;
 use copies::checked::take_inexact;
 
 pub struct Judge {
@@ -38,11 +40,19 @@ impl Judge {
     /// Does the call and says whether it lies in the domain.
     pub fn admits(&mut self, line: &Line) -> bool {
         match line {
-            Line::Call(Call::New) => *self = Judge::default(),
+            Line::Call(call @ Call::New { .. }) => self.begin(call),
             Line::Call(call) if !self.outside => self.outside = !self.does_within(call),
             _ => {}
         }
         !self.outside
+    }
+
+    /// A floor that is refused changes nothing.
+    fn begin(&mut self, call: &Call) {
+        if self.patched.answer(call) == "done" {
+            self.given.answer(call);
+            self.outside = self.patched.sim.floor() != F;
+        }
     }
 
     fn does_within(&mut self, call: &Call) -> bool {
@@ -89,6 +99,17 @@ mod tests {
         assert_eq!(after(&["cancel 2", "widen 7 1", "cancel 1"]), [true, true, false]);
         assert_eq!(after(&["remaining 1", "settle", "remaining 1", "add_edge 3"]), [true, true, true, true]);
         assert_eq!(after(&["advance 10 768", "advance 12 768", "add_edge 3"]), [true, true, true]);
+    }
+
+    #[test]
+    fn another_floor_leaves_the_domain_until_the_next_new() {
+        let start = ["add_edge 10", "submit 1 0 0 100 0 - 0 1 0"];
+        let after = |calls: &[&str]| admitted(&[&start, calls].concat())[start.len()..].to_vec();
+        assert_eq!(after(&["new 0.001", "now", "new 0.002", "new", "now"]), [false, false, false, true, true]);
+        assert_eq!(after(&["new 0.001", "new 0.000000000001", "now"]), [false, true, true]);
+        assert_eq!(after(&["new 3d719799812dea12", "new 3d719799812dea11", "now"]), [false, true, true]);
+        // Refused, it leaves the transfer in flight, and thirds round.
+        assert_eq!(after(&["new 7ff8000000000000", "new 0", "new x", "widen 0 -7", "finish", "now"]), [true, true, true, true, false, false]);
     }
 
     #[test]

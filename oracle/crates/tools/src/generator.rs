@@ -4,8 +4,9 @@ mod aims;
 
 use crate::exact::Judge;
 use crate::random::Random;
-use crate::script::{read_line, Call};
+use crate::script::{hex, read_line, Call};
 use crate::session::Session;
+use crate::tolerances::{COARSEST, F};
 use copies::Party;
 
 #[derive(Clone, Copy, PartialEq, Debug)]
@@ -71,9 +72,10 @@ enum Kind {
     Dump,
     RunUntil,
     Finish,
+    New,
 }
 
-const KINDS: [Kind; 21] = [
+const KINDS: [Kind; 22] = [
     Kind::Submit,
     Kind::Advance,
     Kind::Cancel,
@@ -95,13 +97,14 @@ const KINDS: [Kind; 21] = [
     Kind::Dump,
     Kind::RunUntil,
     Kind::Finish,
+    Kind::New,
 ];
 
-const USUAL: [usize; 21] = [44, 40, 10, 6, 4, 8, 5, 14, 10, 5, 9, 5, 11, 7, 4, 3, 7, 5, 4, 8, 1];
+const USUAL: [usize; 22] = [44, 40, 10, 6, 4, 8, 5, 14, 10, 5, 9, 5, 11, 7, 4, 3, 7, 5, 4, 8, 1, 3];
 /// More submissions than completions.
-const BUSY: [usize; 21] = [90, 30, 10, 6, 4, 8, 5, 12, 10, 5, 9, 5, 11, 7, 4, 3, 7, 5, 4, 8, 2];
+const BUSY: [usize; 22] = [90, 30, 10, 6, 4, 8, 5, 12, 10, 5, 9, 5, 11, 7, 4, 3, 7, 5, 4, 8, 2, 3];
 /// Many submissions, few completions, and dumps seldom, for they are long; a crowd that is finished is none.
-const CROWDED: [usize; 21] = [400, 60, 12, 4, 4, 10, 8, 16, 12, 6, 8, 5, 14, 8, 8, 4, 8, 6, 2, 10, 0];
+const CROWDED: [usize; 22] = [400, 60, 12, 4, 4, 10, 8, 16, 12, 6, 8, 5, 14, 8, 8, 4, 8, 6, 2, 10, 0, 6];
 
 /// Small numbers, and beside them numbers with many divisors: more of their shares come out whole.
 const WHOLE_CAPACITIES: [&[f64]; 2] = [
@@ -141,6 +144,25 @@ const SPECIAL: [u64; 22] = [
     0x4330_0000_0000_0000, // 2^52, 2^53
     0x4340_0000_0000_0000,
     0x8000_0000_0000_0001,
+];
+/// Floors that are refused: next to both ends and far from them, the zeros, below zero, no numbers.
+const REFUSED_FLOORS: [f64; 16] = [
+    F.next_down(),
+    COARSEST.next_up(),
+    1e-13,
+    0.002,
+    1.0,
+    f64::MAX,
+    f64::from_bits(1),
+    0.0,
+    -0.0,
+    -F,
+    -1e-6,
+    -COARSEST,
+    f64::INFINITY,
+    f64::NEG_INFINITY,
+    f64::NAN,
+    f64::from_bits(0xfff0_0000_0000_0001),
 ];
 const LATEST: f64 = (1u64 << 40) as f64;
 const AMPLE: usize = 768;
@@ -182,7 +204,8 @@ impl Generator {
         let start = self.lines.len();
         self.base = self.random.magnitude(-3, 20);
         self.list = usize::from(self.random.chance(65));
-        self.emit(Call::New.to_string());
+        let beginning = self.beginning();
+        self.emit(beginning);
         for _ in 0..self.random.between(0, 4) {
             let call = self.add_edge();
             self.offer(call);
@@ -199,6 +222,28 @@ impl Generator {
         self.lines.truncate(start + room);
     }
 
+    /// A fresh simulator, at times with a floor. Under `whole` that is the Rust's own, for behind another one nothing lies in the domain.
+    fn beginning(&mut self) -> String {
+        let floor = match (self.profile, self.random.below(10)) {
+            (Profile::Whole, 1..) | (_, 4..) => return Call::New { floor: None }.to_string(),
+            (Profile::Whole, _) => F,
+            _ => self.floor(),
+        };
+        // By its bits, or in decimal where that reads back.
+        if self.random.chance(50) { format!("new {}", hex(floor)) } else { Call::New { floor: Some(floor) }.to_string() }
+    }
+
+    /// A floor that is taken: an end, the double next to it, any other.
+    fn floor(&mut self) -> f64 {
+        match self.random.below(8) {
+            0 => F,
+            1 => F.next_up(),
+            2 => COARSEST.next_down(),
+            3 | 4 => COARSEST,
+            _ => self.random.magnitude(-40, -10).clamp(F, COARSEST),
+        }
+    }
+
     /// One line more, or a few.
     fn step(&mut self) {
         if self.profile == Profile::Wrong && self.random.chance(70) {
@@ -207,9 +252,9 @@ impl Generator {
         }
         // So many steps of a hundred are some lines aimed at one place.
         let aimed = match self.profile {
-            Profile::Whole => 3,
-            Profile::Wrong => 10,
-            _ => 8,
+            Profile::Whole => 4,
+            Profile::Wrong => 14,
+            _ => 9,
         };
         if self.random.chance(aimed) {
             return self.aim();
@@ -278,6 +323,8 @@ impl Generator {
             Kind::Dump => Call::Dump,
             Kind::RunUntil => Call::RunUntil { time: self.time_ahead() },
             Kind::Finish => Call::Finish,
+            // One that is taken ends a sequence.
+            Kind::New => Call::New { floor: Some(*self.random.pick(&REFUSED_FLOORS)) },
         }
     }
 
@@ -636,7 +683,8 @@ impl Generator {
         let at = self.random.below(words.len());
         match self.random.below(6) {
             0 => words.push("7"),
-            1 if words.len() > 1 => drop(words.pop()),
+            // Without its floor `new` is another call.
+            1 if words.len() > 1 && kind != Kind::New => drop(words.pop()),
             2 => words[0] = "sumbit",
             3 => words[at] = "18446744073709551616",
             4 => words[at] = "x1",

@@ -11,7 +11,7 @@ pub const MOST_PATH: usize = 128;
 /// A call as read. Doubles keep their bits; the session reads negative zero as zero.
 #[derive(Clone, Debug)]
 pub enum Call {
-    New,
+    New { floor: Option<f64> },
     AddEdge { capacity: f64 },
     Widen { edge: u32, amount: f64 },
     Submit { id: u32, owner: Party, bytes: u64, latency: f64, cap: Option<f64>, time: f64, path: Vec<u32> },
@@ -98,7 +98,7 @@ impl<'a> Words<'a> {
 
     fn call(&mut self) -> Option<Call> {
         Some(match self.word()? {
-            "new" => Call::New,
+            "new" => Call::New { floor: self.floor()? },
             "add_edge" => Call::AddEdge { capacity: self.double()? },
             "widen" => Call::Widen { edge: self.number()?, amount: self.double()? },
             "submit" => Call::Submit {
@@ -139,6 +139,11 @@ impl<'a> Words<'a> {
 
     fn double(&mut self) -> Option<f64> {
         read_double(self.word()?)
+    }
+
+    /// A double, or nothing behind the call's name.
+    fn floor(&mut self) -> Option<Option<f64>> {
+        self.word().map_or(Some(None), |word| read_double(word).map(Some))
     }
 
     /// A decimal u32.
@@ -251,7 +256,8 @@ impl fmt::Display for Call {
     fn fmt(&self, f: &mut fmt::Formatter) -> fmt::Result {
         let double = |value: &f64| write_double(*value);
         match self {
-            Call::New => write!(f, "new"),
+            Call::New { floor: None } => write!(f, "new"),
+            Call::New { floor: Some(floor) } => write!(f, "new {}", double(floor)),
             Call::AddEdge { capacity } => write!(f, "add_edge {}", double(capacity)),
             Call::Widen { edge, amount } => write!(f, "widen {edge} {}", double(amount)),
             Call::Submit { id, owner, bytes, latency, cap, time, path } => write!(
@@ -305,12 +311,13 @@ mod tests {
     #[test]
     fn a_call_is_read_back_as_written() {
         let lines = ["submit 1 0 7 100 0.25 - 3 2 0 1", "advance 4014000000000001 768", "widen 0 -1", "new", "dump", "run_until 2.5", "finish"];
-        for line in lines.into_iter().chain(["settle", "remaining 4294967295"]) {
+        for line in lines.into_iter().chain(["settle", "remaining 4294967295", "new 0.001", "new 0.000000000001", "new 3d719799812dea12", "new -3"]) {
             let Line::Call(call) = read_line(line) else { panic!("{line}") };
             assert_eq!(call.to_string(), line);
         }
         assert!(matches!(read_line("  # only a remark"), Line::Blank));
-        for line in ["now 1", "run_until", "run_until 1 768", "run_until -", "finish 1", "settle 1", "remaining", "remaining 1 1", "estimate_remaining 1"] {
+        for line in ["now 1", "run_until", "run_until 1 768", "run_until -", "finish 1", "settle 1", "remaining", "remaining 1 1", "estimate_remaining 1", "new -", "new 1e-3", "new 0.001 1",
+            "new floor", "news"] {
             assert!(matches!(read_line(line), Line::Malformed), "{line}");
         }
     }

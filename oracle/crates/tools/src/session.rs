@@ -20,7 +20,6 @@ const UNTOUCHED: u32 = 0xA5A5_A5A5;
 pub type Maker = fn() -> Box<dyn Simulator>;
 
 pub struct Session {
-    make: Maker,
     pub sim: Box<dyn Simulator>,
     completed: [u64; 3],
     cancelled: [u64; 3],
@@ -32,7 +31,7 @@ pub struct Session {
 
 impl Session {
     pub fn new(make: Maker, common: bool) -> Session {
-        Session { make, sim: make(), completed: [0; 3], cancelled: [0; 3], common, most_steps: usize::MAX }
+        Session { sim: make(), completed: [0; 3], cancelled: [0; 3], common, most_steps: usize::MAX }
     }
 
     /// The same session once more, to try a call on.
@@ -55,7 +54,7 @@ impl Session {
         self.accepted(call)
     }
 
-    /// The refusal that holds before any work is done; 8 needs the list and is found with it.
+    /// The refusal that holds before any work is done; 8 needs the list and is found with it, and the copy itself tells whether it takes a floor.
     pub fn refusal(&self, call: &Call) -> Option<u32> {
         let sim = &self.sim;
         let absent = |edge: &u32| *edge as usize >= sim.edges();
@@ -92,10 +91,7 @@ impl Session {
 
     fn accepted(&mut self, call: &Call) -> String {
         match call {
-            Call::New => {
-                *self = Session { most_steps: self.most_steps, ..Session::new(self.make, self.common) };
-                "done".to_string()
-            }
+            Call::New { floor } => self.begin(*floor),
             Call::AddEdge { capacity } => format!("edge {}", self.sim.add_edge(plus_zero(*capacity))),
             Call::Widen { edge, amount } => {
                 self.sim.widen(*edge as usize, plus_zero(*amount));
@@ -145,6 +141,16 @@ impl Session {
             Call::Counts => self.counts(),
             Call::Dump => self.dump(),
         }
+    }
+
+    /// A fresh simulator. The Rust as given can't follow to another floor than its own: `-` says so.
+    fn begin(&mut self, floor: Option<f64>) -> String {
+        if !self.sim.begin(floor) {
+            return "refused 1".to_string();
+        }
+        (self.completed, self.cancelled) = ([0; 3], [0; 3]);
+        let followed = floor.is_none_or(|floor| floor == self.sim.floor());
+        (if followed { "done" } else { "-" }).to_string()
     }
 
     /// Done on a copy where the buffer might be short, so that a refusal leaves no trace.
@@ -289,14 +295,15 @@ impl Session {
         let next = sim.next_done().map_or("-".to_string(), hex);
         let drained = self.last_drain().map_or("-".to_string(), hex);
         let mut lines = vec![format!(
-            "dump clock {} stale {} next {next} rounds {} edges {} flight {} queued {} peak {} drained {drained}",
+            "dump clock {} stale {} next {next} rounds {} edges {} flight {} queued {} peak {} floor {} drained {drained}",
             hex(sim.now()),
             u8::from(sim.stale()),
             self.rounds(),
             sim.edges(),
             sim.in_flight(),
             sim.uncollected(),
-            sim.peak()
+            sim.peak(),
+            hex(sim.floor())
         )];
         lines.extend((0..3).map(|kind| format!("kind {kind} {}", self.tally(kind))));
         lines.extend((0..sim.edges()).map(|e| format!("edge {e} {}", self.edge(e))));
@@ -411,6 +418,7 @@ fn write_list<const N: usize>(entries: &[[u32; N]], places: usize) -> Option<Str
 #[cfg(test)]
 mod tests {
     use super::*;
+    use crate::tolerances::{COARSEST, F};
 
     /// The last answer of a script, from each copy.
     fn last(script: &[&str]) -> String {
@@ -525,6 +533,49 @@ mod tests {
         assert_eq!(after_two(&["settle", "advance 3 768", "remaining 9"]), "unknown behind");
         assert_eq!(after_two(&["finish", "remaining 1"]), "unknown -");
         assert_eq!(last(&["remaining 1"]), "unknown -");
+    }
+
+    /// The floor that a dump tells.
+    fn floor_of(dump: &str) -> &str {
+        dump.split(' ').skip_while(|word| *word != "floor").nth(1).expect("a floor")
+    }
+
+    #[test]
+    fn a_floor_is_taken_from_one_end_to_the_other() {
+        for floor in [F, F.next_up(), 1e-7, COARSEST.next_down(), COARSEST] {
+            let said = patched(&[&format!("new {}", hex(floor)), "dump", "add_edge 1", "dump", "new", "dump"]);
+            assert_eq!([&said[0], floor_of(&said[1]), floor_of(&said[3]), floor_of(&said[5])], ["done", &hex(floor), &hex(floor), &hex(F)]);
+        }
+        assert_eq!(patched(&["new 0.001", "new 0.000000000001"]), ["done", "done"]);
+        for floor in [F.next_down(), COARSEST.next_up(), 0.0, -0.0, -F, -COARSEST, f64::from_bits(1), 1.0, f64::INFINITY, f64::NEG_INFINITY, f64::NAN] {
+            let said = after_one(&["advance 10 768", "submit 2 1 0 9 0 - 11 1 0", "dump", &format!("new {}", hex(floor)), "dump"]);
+            assert_eq!(said[3], "refused 1", "{floor}");
+            assert_eq!(said[2], said[4], "{floor}");
+        }
+    }
+
+    #[test]
+    fn the_rust_as_given_has_its_own_floor_alone() {
+        let mut session = Session::new(copies::given, true);
+        let mut say = |line: &str| session.answer_line(&read_line(line)).expect("a call");
+        assert_eq!([say("new 0.000000000001"), say("new"), say("new 0.002"), say("new 0.001")], ["done", "done", "refused 1", "-"]);
+        assert_eq!(floor_of(&say("dump")), hex(F));
+    }
+
+    /// 10 bytes at 1,000 a second, and the floor a millisecond: drained half of that before the end it is done.
+    #[test]
+    fn eps_is_the_floor_where_that_is_larger() {
+        let plan = |floor: &str, calls: &[&str]| {
+            let start = [&format!("new {floor}"), "add_edge 1000", "submit 1 0 0 10 0 - 0 1 0"];
+            patched(&[&start[..], calls].concat()).split_off(start.len())
+        };
+        let quiet = ["next_completion_delay", "advance 0.0095 768", "settle", "remaining 1", "advance 0.0095 768"];
+        let nobody = "list 0 tail-kept".to_string();
+        assert_eq!(plan("0.001", &quiet)[3..], [left(0.0, "current"), nobody.clone()]);
+        assert_eq!(plan("0.0001", &quiet)[4], nobody);
+        assert_ne!(plan("0.0001", &quiet)[3], left(0.0, "current"));
+        assert_eq!(plan("0.001", &["advance 0.0095 768"]), ["list 1 0 0 1 tail-kept"]);
+        assert_eq!(plan("0.0001", &["advance 0.0095 768"]), [nobody]);
     }
 
     #[test]

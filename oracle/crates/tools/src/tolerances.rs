@@ -2,12 +2,19 @@
 
 /// So many bytes count as none.
 pub const B: f64 = 1e-6;
-/// So many seconds count as none at any clock.
+/// So many seconds count as none at any clock, where no other floor is given.
 pub const F: f64 = 1e-12;
+/// The coarsest floor that is taken; the finest is F.
+pub const COARSEST: f64 = 1e-3;
 
 /// The seconds that count as none at a clock.
 pub fn eps_at(clock: f64) -> f64 {
-    (clock * 4.0 * f64::EPSILON).max(F)
+    eps_over(F, clock)
+}
+
+/// The same over some floor.
+pub fn eps_over(floor: f64, clock: f64) -> f64 {
+    (clock * 4.0 * f64::EPSILON).max(floor)
 }
 
 /// A number and the doubles just below and above it.

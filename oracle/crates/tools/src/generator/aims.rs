@@ -2,7 +2,7 @@
 //! tolerances, transfers that stall, questions that only read, the calls that drain before they change something, ties and clamps.
 
 use super::*;
-use crate::tolerances::{eps_at, neighbours, whole_over_double, B};
+use crate::tolerances::{eps_over, neighbours, whole_over_double, B};
 
 /// What is left before the last step to B: from here on B and its neighbours are met by exact steps.
 const LITTLE: f64 = 1.0 / (1 << 19) as f64;
@@ -18,7 +18,7 @@ impl Generator {
         let common: &[Aim] = match self.profile {
             // Of a drain before a change and of a number next to a tolerance, nothing lies in the exact domain.
             Profile::Whole => &[Self::at_stall, Self::at_watch, Self::at_drain_time, Self::at_latency_left],
-            _ => &[Self::at_stall, Self::at_watch, Self::at_bytes_left, Self::at_drain_time, Self::at_latency_left, Self::at_change],
+            _ => &[Self::at_stall, Self::at_watch, Self::at_bytes_left, Self::at_drain_time, Self::at_latency_left, Self::at_early_end, Self::at_change],
         };
         let own: &[Aim] = match self.profile {
             Profile::Wild => &[Self::at_clamp],
@@ -26,7 +26,9 @@ impl Generator {
             Profile::Crowd => &[Self::at_many_caps],
             _ => &[],
         };
-        let aim = *self.random.pick(&[common, own].concat());
+        // Whether somebody is done early is best asked where the floor is coarse.
+        let early = self.session.sim.floor() >= 1e-6 && self.random.chance(30);
+        let aim = if early { Self::at_early_end } else { *self.random.pick(&[common, own].concat()) };
         if aim(self).is_none() {
             self.emit(Call::Now.to_string());
         }
@@ -36,7 +38,7 @@ impl Generator {
     fn at_bytes_left(&mut self) -> Option<()> {
         let clock = self.session.sim.now();
         // Steps of 2^-fine seconds: no shorter than eps, so that it is the bytes that decide, and whole steps from 0 to the clock.
-        let finest = -1 - exponent(eps_at(2.0 * clock + 1.0));
+        let finest = -1 - exponent(self.eps_at(2.0 * clock + 1.0));
         let fine = finest - self.random.below(8) as i32;
         let coarse = fine - 21 - self.random.below(4) as i32;
         let start = (clock * 2f64.powi(fine)).ceil() / 2f64.powi(fine);
@@ -117,15 +119,16 @@ impl Generator {
     fn at_growing_eps(&mut self) -> Option<()> {
         let clock = self.session.sim.now();
         let step = clock.next_up();
-        let (id, drained, end) = if self.profile != Profile::Whole && eps_at(step) > eps_at(clock) {
-            let target = eps_at(step);
+        let (id, drained, end) = if self.profile != Profile::Whole && self.eps_at(step) > self.eps_at(clock) {
+            let target = self.eps_at(step);
             let (bytes, cap) = whole_over_double(target, self.random.between(1, 3000) as u64)?;
             let by_latency = self.random.chance(50);
             let (bytes, latency, cap) = if by_latency { (0, target, None) } else { (bytes, 0.0, Some(cap)) };
             (self.aimed_submit(bytes, latency, cap, clock, vec![])?, clock, step)
         } else {
-            let end = 2f64.powi(exponent(clock.max(1024.0)) + 1);
-            let half = eps_at(end) / 2.0;
+            let leaves_floor = self.session.sim.floor() * 2f64.powi(50);
+            let end = Some(2f64.powi(exponent(clock.max(leaves_floor)) + 1)).filter(|end| *end <= LATEST)?;
+            let half = self.eps_at(end) / 2.0;
             (self.aimed_submit(0, end + half - clock, None, clock, vec![])?, end - half, end)
         };
         self.aimed(Call::NextCompletionDelay)?;
@@ -139,7 +142,7 @@ impl Generator {
     /// Bytes over rate are eps or a neighbour of it.
     fn at_drain_time(&mut self) -> Option<()> {
         let clock = self.round_clock()?;
-        let target = *self.random.pick(&neighbours(eps_at(clock)));
+        let target = *self.random.pick(&neighbours(self.eps_at(clock)));
         let (bytes, rate) = whole_over_double(target, self.random.between(1, 3000) as u64)?;
         let id = if self.random.chance(50) {
             self.aimed_submit(bytes, 0.0, Some(rate), clock, vec![])?
@@ -159,7 +162,7 @@ impl Generator {
         // The least steps of the clock: a sum with one of them keeps all digits of eps.
         let step = (clock.next_up() - clock).max(2f64.powi(-41)) * *self.random.pick(&[1.0, 2.0]);
         let end = if self.random.chance(50) { clock } else { clock + step };
-        let target = *self.random.pick(&neighbours(eps_at(end)));
+        let target = *self.random.pick(&neighbours(self.eps_at(end)));
         let id = self.aimed_submit(bytes, target + (end - clock), None, clock, vec![])?;
         if self.random.chance(30) {
             self.aimed_submit(1, 1.0, None, end, vec![])?;
@@ -167,6 +170,54 @@ impl Generator {
         self.question(id)?;
         self.aimed(Call::Advance { time: end, places: AMPLE })?;
         self.maybe(Call::Contains { id }, 30)
+    }
+
+    /// The clock stops where somebody is done but for eps, or just before: drained there it is listed early or not, and quietly reached nobody is listed.
+    fn at_early_end(&mut self) -> Option<()> {
+        if self.random.chance(60) {
+            self.alone()?;
+        }
+        self.aimed(Call::NextCompletionDelay)?;
+        let (clock, next) = (self.session.sim.now(), self.session.sim.next_done().filter(|t| t.is_finite())?);
+        let (_, id) = *self.session.sim.copy().advance(next).first()?;
+        let path: Vec<u32> = self.session.sim.transfers().iter().find(|t| t.id == id)?.path.iter().map(|e| *e as u32).collect();
+        let eps = self.eps_at(next);
+        let early = match self.random.below(4) {
+            0 => *self.random.pick(&neighbours(next - eps)),
+            1 => next - eps * (1.0 + self.fraction()),
+            _ => next - eps * self.fraction(),
+        };
+        let time = Some(early).filter(|t| *t > clock && *t < next && *t <= LATEST)?;
+        match self.random.below(5) {
+            0 | 1 => {
+                self.aimed(Call::Advance { time, places: AMPLE })?;
+                self.maybe(Call::Remaining { id }, 50)?;
+                self.aimed(Call::Settle)?;
+                self.aimed(Call::Remaining { id })?;
+                self.maybe(Call::NextCompletionDelay, 50)?;
+            }
+            2 => {
+                // Who is done and not listed takes part in a filling all the same.
+                let bytes = self.some_bytes();
+                let other = self.aimed_submit(bytes, 0.0, None, time, path.clone())?;
+                self.maybe(Call::Remaining { id }, 50)?;
+                self.aimed(Call::Rate { id: other })?;
+            }
+            3 => {
+                self.aimed(Call::Advance { time, places: AMPLE })?;
+                self.aimed(Call::Widen { edge: *path.first()?, amount: 0.0 })?;
+                self.maybe(Call::NextCompletionDelay, 50)?;
+            }
+            _ => {
+                self.aimed(Call::RunUntil { time })?;
+                self.maybe(Call::Settle, 50)?;
+                let further = if self.random.chance(50) { next } else { time };
+                self.aimed(Call::RunUntil { time: further })?;
+            }
+        }
+        let time = self.session.sim.now();
+        self.aimed(Call::Advance { time, places: AMPLE })?;
+        path.first().map_or(Some(()), |edge| self.maybe(Call::Edge { edge: *edge }, 50))
     }
 
     /// A quiet advance, then a call that has to drain before it changes anything, then one that shows the bytes.
@@ -252,6 +303,11 @@ impl Generator {
     }
 
     // ---- parts ----
+
+    /// The seconds that count as none at a clock, with the floor of this sequence.
+    fn eps_at(&self, clock: f64) -> f64 {
+        eps_over(self.session.sim.floor(), clock)
+    }
 
     /// Emits a call where it may be.
     fn aimed(&mut self, call: Call) -> Option<()> {
@@ -339,13 +395,23 @@ mod tests {
     use crate::script::Line;
     use copies::TransferView;
 
-    /// The profiles whose scripts of so many lines bring some transfer there.
+    /// The profiles whose scripts of so many lines bring some transfer there, by the eps at the clock, while the floor is the Rust's own.
     fn met(lines: usize, place: fn(&TransferView, f64) -> bool) -> Vec<&'static str> {
+        met_over(|floor| floor == F, lines, place)
+    }
+
+    /// The same while the floor is coarse: a microsecond or more.
+    fn met_coarse(lines: usize, place: fn(&TransferView, f64) -> bool) -> Vec<&'static str> {
+        met_over(|floor| floor >= 1e-6, lines, place)
+    }
+
+    fn met_over(floors: fn(f64) -> bool, lines: usize, place: fn(&TransferView, f64) -> bool) -> Vec<&'static str> {
         let meets = |profile: Profile| {
             let mut session = Session::new(copies::patched, false);
             script(3, lines, profile).iter().any(|line| {
                 session.answer_line(&read_line(line));
-                session.sim.transfers().iter().any(|t| place(t, session.sim.now()))
+                let eps = eps_over(session.sim.floor(), session.sim.now());
+                floors(session.sim.floor()) && session.sim.transfers().iter().any(|t| place(t, eps))
             })
         };
         PROFILES.iter().filter(|(_, profile)| meets(*profile)).map(|(name, _)| *name).collect()
@@ -362,14 +428,65 @@ mod tests {
 
     #[test]
     fn time_left_is_met() {
-        assert_eq!(met(6000, |t, clock| t.rate > 0.0 && t.bytes / t.rate == eps_at(clock)), ALL);
-        assert_eq!(met(6000, |t, clock| t.rate > 0.0 && t.bytes / t.rate == eps_at(clock).next_up()), ALL[1..]);
+        assert_eq!(met(6000, |t, eps| t.rate > 0.0 && t.bytes / t.rate == eps), ALL);
+        assert_eq!(met(6000, |t, eps| t.rate > 0.0 && t.bytes / t.rate == eps.next_up()), ALL[1..]);
     }
 
     #[test]
     fn latency_left_is_met() {
-        assert_eq!(met(6000, |t, clock| t.latency == eps_at(clock)), ALL);
-        assert_eq!(met(6000, |t, clock| t.latency == eps_at(clock).next_up()), ALL[1..]);
+        assert_eq!(met(6000, |t, eps| t.latency == eps), ALL);
+        assert_eq!(met(6000, |t, eps| t.latency == eps.next_up()), ALL[1..]);
+    }
+
+    #[test]
+    fn coarse_floors_are_met() {
+        assert_eq!(met_coarse(20_000, |t, eps| t.rate > 0.0 && t.bytes / t.rate == eps), ALL[1..]);
+        assert_eq!(met_coarse(20_000, |t, eps| t.rate > 0.0 && t.bytes / t.rate == eps.next_up()), ALL[1..]);
+        assert_eq!(met_coarse(20_000, |t, eps| t.latency == eps), ALL[1..]);
+        assert_eq!(met_coarse(20_000, |t, eps| t.latency == eps.next_up()), ALL[1..]);
+        // Done by the floor alone, with bytes that count and no latency left.
+        assert_eq!(met_coarse(20_000, |t, eps| t.bytes > 1.0 && t.latency == 0.0 && t.bytes / t.rate < eps), ALL[1..]);
+    }
+
+    /// The floors of a profile's script of so many lines, taken and refused.
+    fn floors(lines: usize, profile: Profile) -> (Vec<f64>, Vec<f64>) {
+        let mut session = Session::new(copies::patched, false);
+        let (mut taken, mut refused) = (Vec::new(), Vec::new());
+        for line in script(3, lines, profile) {
+            let read = read_line(&line);
+            let answer = session.answer_line(&read);
+            if let Line::Call(Call::New { floor: Some(floor) }) = read {
+                if answer.as_deref() == Some("done") { taken.push(floor) } else { refused.push(floor) }
+            }
+        }
+        (taken, refused)
+    }
+
+    #[test]
+    fn floors_are_taken_and_refused_in_every_profile() {
+        for (name, profile) in PROFILES {
+            let (taken, refused) = floors(50_000, profile);
+            for floor in REFUSED_FLOORS {
+                assert!(refused.iter().any(|f| f.to_bits() == floor.to_bits()), "{floor} in {name}");
+            }
+            assert!(taken.contains(&F), "{name}");
+            if profile == Profile::Whole {
+                assert!(taken.iter().all(|floor| *floor == F));
+                continue;
+            }
+            for floor in [F.next_up(), COARSEST.next_down(), COARSEST] {
+                assert!(taken.contains(&floor), "{floor} in {name}");
+            }
+        }
+    }
+
+    /// As a plan with a coarse floor shows it: done by the question, and a delay all the same, since nothing has made next-done anew.
+    #[test]
+    fn done_and_not_listed_is_met() {
+        assert_eq!(told(6000, |said, session, _| {
+            let sim = &session.sim;
+            said == "value 0000000000000000 current" && sim.floor() >= 1e-6 && sim.next_done() > Some(sim.now())
+        }), ALL[1..]);
     }
 
     /// The profiles whose scripts of so many lines get such an answer on a transfer's time.
@@ -408,8 +525,8 @@ mod tests {
     fn eps_at_the_clock_makes_a_transfer_done_that_was_not_at_the_last_drain() {
         let grown = |said: &str, session: &Session, id: u32| {
             let found = session.sim.transfers().into_iter().find(|t| t.id == id);
-            let above = |t: TransferView| t.latency > eps_at(t.last) || t.bytes > B && t.bytes / t.rate > eps_at(t.last);
-            said == "value 0000000000000000 behind" && found.is_some_and(above)
+            let above = |t: TransferView| t.latency > eps_over(F, t.last) || t.bytes > B && t.bytes / t.rate > eps_over(F, t.last);
+            session.sim.floor() == F && said == "value 0000000000000000 behind" && found.is_some_and(above)
         };
         assert_eq!(told(6000, grown), ALL);
     }
