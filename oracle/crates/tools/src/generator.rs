@@ -253,7 +253,7 @@ impl Generator {
         // So many steps of a hundred are some lines aimed at one place.
         let aimed = match self.profile {
             Profile::Whole => 4,
-            Profile::Wrong => 14,
+            Profile::Wrong => 12,
             _ => 9,
         };
         if self.random.chance(aimed) {

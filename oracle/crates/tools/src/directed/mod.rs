@@ -2,6 +2,7 @@
 
 mod cases;
 mod fillings;
+mod floors;
 mod limits;
 mod orders;
 mod refusals;
@@ -30,6 +31,7 @@ pub fn scripts() -> Vec<(&'static str, Vec<String>)> {
         ("next-done", tolerance::next_done()),
         ("time-left", time_left::time_left()),
         ("watching", watching::watching()),
+        ("floors", floors::floors()),
         ("steps", steps::steps()),
         ("equal-caps", orders::equal_caps()),
         ("many-caps", orders::many_caps()),

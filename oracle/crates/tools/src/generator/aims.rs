@@ -483,7 +483,7 @@ mod tests {
     /// As a plan with a coarse floor shows it: done by the question, and a delay all the same, since nothing has made next-done anew.
     #[test]
     fn done_and_not_listed_is_met() {
-        assert_eq!(told(6000, |said, session, _| {
+        assert_eq!(told(20_000, |said, session, _| {
             let sim = &session.sim;
             said == "value 0000000000000000 current" && sim.floor() >= 1e-6 && sim.next_done() > Some(sim.now())
         }), ALL[1..]);
