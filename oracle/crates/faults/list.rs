@@ -134,7 +134,50 @@ pub const FAULTS: &[Fault] = &[
         &[("let mut ts: Vec<", "for t in self.in_flight.values_mut() { if t.bytes_remaining <= DONE_EPSILON_BYTES { t.rate = 0.0; } }\n        let mut ts: Vec<")],
     ),
     fault("rounds_with_caps_only", "rounds won by a cap are not counted", &[("frozen[i] = true;\n                    unfrozen -= 1;", "frozen[i] = true; self.rounds -= 1;\n                    unfrozen -= 1;")]),
+    // ---- the floor, which is a constant in the Rust: what reads it ----
+    fault("floor_added", "eps is the sum of the floor and what the clock adds", &[("EPSILON).max(self.floor)", "EPSILON) + self.floor")]),
+    fault("floor_is_b", "B stands where the floor should", &[("EPSILON).max(self.floor)", "EPSILON).max(DONE_EPSILON_BYTES)")]),
+    fault(
+        "floor_without_clock",
+        "with a floor of its own eps no longer grows with the clock",
+        &[("(self.now.abs() * 4.0 * f64::EPSILON).max(self.floor)", "if self.floor > DONE_EPSILON_SECONDS { self.floor } else { (self.now.abs() * 4.0 * f64::EPSILON).max(self.floor) }")],
+    ),
+    fault(
+        "floor_not_in_advance",
+        "an advance asks who is done by the default",
+        &[("let eps = self.done_eps();\n        let mut done", "let eps = (self.now.abs() * 4.0 * f64::EPSILON).max(DONE_EPSILON_SECONDS);\n        let mut done")],
+    ),
+    fault(
+        "floor_not_in_next_done",
+        "next-done goes by the default",
+        &[("let eps = self.done_eps();\n            let now", "let eps = (self.now.abs() * 4.0 * f64::EPSILON).max(DONE_EPSILON_SECONDS);\n            let now")],
+    ),
+    fault("floor_not_in_latency", "a latency is held against the default", &[("t.latency_remaining > eps", "t.latency_remaining > eps.min(DONE_EPSILON_SECONDS)")]),
+    fault("floor_in_quiet", "an advance that ends within the floor of next-done is not quiet", &[("|t| t > now)", "|t| t > now + self.floor)")]),
+    fault("floor_in_delay", "a delay within the floor is told as 0", &[("(t - self.now).max(0.0)", "if t - self.now <= self.floor { 0.0 } else { t - self.now }")]),
+    fault(
+        "floor_in_filling",
+        "who is done by the floor takes no part in a filling",
+        &[("t.bytes_remaining > DONE_EPSILON_BYTES)", "t.bytes_remaining > DONE_EPSILON_BYTES && !(t.rate > 0.0 && t.bytes_remaining / t.rate <= self.floor))")],
+    ),
+    fault("floor_in_submission", "a latency within the floor is dropped by the submission", &[("latency_remaining: latency.max(0.0)", "latency_remaining: if latency <= self.floor { 0.0 } else { latency }")]),
+    fault("floor_in_estimate", "an estimate leaves a latency within the floor out", &[("latency.max(0.0) + bytes / share", "(if latency <= self.floor { 0.0 } else { latency }) + bytes / share")]),
+    // ---- the floor: how a simulator is made with one, in the accessor behind it ----
+    fault("floor_low_end", "the finest floor is refused", &[("floor >= outward(DONE", "floor > outward(DONE")]),
+    fault("floor_high_end", "the coarsest floor is refused", &[("floor <= COARSEST", "floor < COARSEST")]),
+    fault("floor_any_low", "floors below the finest are taken", &[("floor >= outward(DONE_EPSILON_SECONDS) && ", "")]),
+    fault("floor_any_high", "floors above the coarsest are taken", &[(" && floor <= COARSEST", "")]),
+    fault("floor_nan", "a NaN is taken", &[("floor >= outward(DONE_EPSILON_SECONDS) && floor <= COARSEST", "!(floor < outward(DONE_EPSILON_SECONDS) || floor > COARSEST)")]),
+    fault("floor_clamped", "a floor out of range is brought into it", &[("Some(_) => return false,", "Some(floor) => with_floor(floor.clamp(outward(DONE_EPSILON_SECONDS), COARSEST)),")]),
+    fault("floor_kept", "new without a floor keeps the last one", &[("None => Flows::new(),", "None => Flows { floor: self.floor, ..Flows::new() },")]),
+    fault("floor_refused_afresh", "a refused floor leaves a fresh simulator", &[("Some(_) => return false,", "Some(_) => { *self = Flows::new(); return false; }")]),
+    fault("floor_in_place", "a floor is set and the simulator kept", &[("*self = fresh;", "if floor.is_some() { self.floor = fresh.floor; } else { *self = fresh; }")]),
     // ---- the question that only reads, which the Rust has not: its accessor ----
+    fault(
+        "remaining_default_floor",
+        "remaining takes the default floor",
+        &[("Self::time_to_done(t, self.done_eps()).map(outward)", "Self::time_to_done(t, (self.now * 4.0 * f64::EPSILON).max(DONE_EPSILON_SECONDS)).map(outward)")],
+    ),
     fault(
         "remaining_old_eps",
         "remaining takes eps at the last drain",
