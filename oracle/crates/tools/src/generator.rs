@@ -218,6 +218,13 @@ impl Generator {
         }
         if self.random.chance(if self.profile == Profile::Crowd { 100 } else { 30 }) && self.offer(Call::Finish) {
             self.emit(Call::Counts.to_string());
+            if self.random.chance(30) {
+                // A drain with nobody in flight.
+                let time = self.time();
+                self.offer(Call::Advance { time, places: AMPLE });
+                self.offer(Call::Settle);
+                self.offer(Call::Remaining { id: 0 });
+            }
         }
         self.lines.truncate(start + room);
     }

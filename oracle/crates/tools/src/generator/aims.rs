@@ -83,8 +83,10 @@ impl Generator {
         let latency = *self.random.pick(&[0.0, 0.0, 2.0]);
         let edge = self.aimed_edge(capacity)?;
         let path = if self.random.chance(25) { vec![] } else { vec![edge] };
-        let id = self.aimed_submit(bytes, latency, cap, clock, path)?;
+        let id = self.aimed_submit(bytes, latency, cap, clock, path.clone())?;
         self.time_left(id)?;
+        let (bytes, latency) = (*self.random.pick(&[0.0, 8.0]), *self.random.pick(&[-1.0, 0.0, 2.0]));
+        self.maybe(Call::EstimateNew { bytes, latency, cap, path }, 30)?;
         let change = match self.random.below(3) {
             0 => Call::Widen { edge, amount: 8.0 },
             1 => Call::Widen { edge, amount: -capacity },
@@ -136,7 +138,10 @@ impl Generator {
         self.aimed(Call::Settle)?;
         self.maybe(Call::Remaining { id }, 50)?;
         self.aimed(Call::Advance { time: end, places: AMPLE })?;
-        self.aimed(Call::Remaining { id })
+        self.aimed(Call::Remaining { id })?;
+        // Drained, it is done, and next-done is as it was.
+        self.maybe(Call::Settle, 60)?;
+        self.maybe(Call::NextCompletionDelay, 60)
     }
 
     /// Bytes over rate are eps or a neighbour of it.
@@ -167,6 +172,12 @@ impl Generator {
         if self.random.chance(30) {
             self.aimed_submit(1, 1.0, None, end, vec![])?;
         }
+        if self.session.sim.edges() > 0 {
+            // An estimate has no tolerance.
+            let path = vec![self.random.below(self.session.sim.edges()) as u32];
+            self.maybe(Call::EstimateNew { bytes: 1.0, latency: target, cap: None, path }, 30)?;
+        }
+        self.maybe(Call::Dump, 10)?;
         self.question(id)?;
         self.aimed(Call::Advance { time: end, places: AMPLE })?;
         self.maybe(Call::Contains { id }, 30)
