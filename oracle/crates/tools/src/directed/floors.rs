@@ -246,7 +246,7 @@ fn steps(b: &mut Book) {
         ten_bytes(b, floor, &format!("steps with a floor of {floor}"));
         b.all(&["submit 2 1 0 11 0 - 0 1 0", "submit 3 2 0 0 0.0209 - 0 0", "run_until 0.0195", "dump", "settle", "run_until 0.0195", "finish", "edge 0", "counts", "dump"]);
         ten_bytes(b, floor, &format!("a plan run to its end, with a floor of {floor}"));
-        b.all(&["submit 2 1 0 10.5 0 - 0 1 0", "submit 2 1 0 11 0.0004 - 0 1 0", "submit 3 2 0 0 0.0007 - 0.001 0", "finish", "edge 0", "dump"]);
+        b.all(&["submit 2 1 0 11 0.0004 - 0 1 0", "submit 3 2 0 0 0.0007 - 0.001 0", "finish", "edge 0", "dump"]);
     }
 }
 
