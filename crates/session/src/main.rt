@@ -250,14 +250,14 @@ fn renewed(flows: Flows, floor: f64, page: &mut [u8; 65536], at: usize) -> Next
 {
     let fresh = Flows::with_floor(floor);
     let answer = fresh.answer;
+    let renewed = fresh.flows;
     let Answer::Refused(n) = answer else {
         let at = put_text(page, at, b"done\n");
-        let flows = fresh.flows;
-        return Next { flows, at };
+        return Next { flows: renewed, at };
     };
     let at = named(page, at, b"refused", n as u64);
     let at = put_text(page, at, b"\n");
-    Next { flows, at }
+    Next { flows: flows, at }
 }
 
 // A call made and told, its path and its buffer cut to their lengths.

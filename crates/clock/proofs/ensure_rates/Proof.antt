@@ -1,5 +1,6 @@
 -- `ensure_rates` fills where rates are stale, and what follows from the rates is worked out from the filled slots; the loads are those of the slots as they were. Assumes nothing.
-use mathlib.Core.Path.{_≡_}
+use mathlib.Core.Path.{_≡_, ap, _∙_}
+use lib.Ieee.{Float}
 use borrow.Author.Needs.{needs}
 use Rattle.clock.proofs.Kept.{rates-kept, load-kept}
 use Rattle.filling.proofs.Fillable.{fillable}
@@ -32,7 +33,8 @@ returns c =
     let entry = c .before .before .before .before .before .before .before .before .before .before .before in
     let flows = entry .args .flows in
     let filled = c .before .before .before .before .before .recompute-rates in
-    let next : c .before .ahead .result ≡ ahead (flows .clock .now) (soonest (done-eps flows) (filled .result .«in_flight»)) = rw (c .before .ahead .ensures, c .before .before .soonest .ensures, c .before .before .before .done-eps .ensures) in
+    let soon : c .before .before .soonest .result ≡ soonest (done-eps flows) (filled .result .«in_flight») = c .before .before .soonest .ensures ∙ ap (λ (eps : Float). soonest eps (filled .result .«in_flight»)) (c .before .before .before .done-eps .ensures) in
+    let next : c .before .ahead .result ≡ ahead (flows .clock .now) (soonest (done-eps flows) (filled .result .«in_flight»)) = rw (c .before .ahead .ensures, soon) in
     let loads : _≡_ {A = EdgeLoad} (record { load = c .edge-loads .result; len = flows .«num_edges» }) (edge-loads flows) = rw (c .edge-loads .ensures) (load-kept (entry .pre)) in
     rates-kept (entry .pre) (rw (c .before .before .before .before .before .before .before .before .before .if1 .taken, ← filled .ensures .0, ← filled .ensures .1, ← next, ← loads))
 

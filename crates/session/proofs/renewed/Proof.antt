@@ -59,7 +59,7 @@ returns : tie.Need-returns
 returns c =
     let start = c .before .before .before .before .before .before .args in
     let fresh = c .before .before .before .before .before .with-floor in
-    (taken (start .floor) (start .flows) (fresh .result) (fresh .ensures .0) (c .before .before .before .before .match .keys2), (fresh .ensures .1, search needs))
+    (taken (start .floor) (start .flows) (fresh .result) (fresh .ensures .0) (c .before .before .before .match .keys2), (fresh .ensures .1, search needs))
 
 slice-aggregate-named : tie.Need-slice-aggregate-named
 slice-aggregate-named c = search needs
@@ -78,8 +78,8 @@ put-text-requires-2 c κs = search needs
 
 returns-2 : tie.Need-returns-2
 returns-2 c =
-    let start = c .before .before .before .before .before .before .before .before .before .before in
-    let fresh = c .before .before .before .before .before .before .before .before .before .with-floor in
+    let start = c .before .before .before .before .before .before .before .before .before .before .before in
+    let fresh = c .before .before .before .before .before .before .before .before .before .before .with-floor in
     let answer = c .before .before .before .before .before .before .before .answer in
     (not-taken (start .args .floor) (start .args .flows) (fresh .result) (fresh .ensures .0) _ (answer .given .1), (start .pre .0, search needs))
 
