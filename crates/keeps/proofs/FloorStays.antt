@@ -19,14 +19,14 @@ use Rattle.rules.specs.Records.{path-of, contains, with-edges, with-in-flight, 
 use Rattle.rules.specs.Filling.{recompute-rates}
 use Rattle.rules.specs.Clock.{with-rates, ensure-rates, pass-time, drain-slots, drain-to, settled, drained-to-clock}
 use Rattle.rules.specs.Refusals.{Cause, refusing, answering, refused, Lent, lent, refused-lent}
-use Rattle.rules.specs.Queue.{queued, collected, ids-for, taking, take-completed, owners-with-completions}
+use Rattle.rules.specs.Queue.{queued, collected, ids-for, taking, take-completed}
 use Rattle.rules.specs.Edges.{edge-added, add-edge, edge-widened, widen}
 use Rattle.rules.specs.Submission.{submitted-transfer, peak-taken, started, submitted, submit-capped}
 use Rattle.rules.specs.Advance.{completed-one, completed, done-list, quiet, list-done, advance}
 use Rattle.rules.specs.Cancel.{cancelled, cancel}
 use Rattle.rules.specs.Questions.{next-completion-delay, rate}
 use Rattle.rules.specs.TimeLeft.{settle}
-use Rattle.rules.specs.Histories.{call, Turn, after, run}
+use Rattle.rules.specs.Histories.{call, after, run}
 use Rattle.rules.specs.Promises.{FloorStays}
 use Rattle.keeps.proofs.Refusing.{refused-or}
 use Rattle.keeps.proofs.Passing.{pass-time-is}

@@ -158,7 +158,7 @@ pub const FAULTS: &[Fault] = &[
     fault(
         "floor_in_filling",
         "who is done by the floor takes no part in a filling",
-        &[("t.bytes_remaining > DONE_EPSILON_BYTES)", "t.bytes_remaining > DONE_EPSILON_BYTES && !(t.rate > 0.0 && t.bytes_remaining / t.rate <= self.floor))")],
+        &[("t.bytes_remaining > DONE_EPSILON_BYTES)", "t.bytes_remaining > DONE_EPSILON_BYTES && !Self::is_done(t, self.floor))")],
     ),
     fault("floor_in_submission", "a latency within the floor is dropped by the submission", &[("latency_remaining: latency.max(0.0)", "latency_remaining: if latency <= self.floor { 0.0 } else { latency }")]),
     fault("floor_in_estimate", "an estimate leaves a latency within the floor out", &[("latency.max(0.0) + bytes / share", "(if latency <= self.floor { 0.0 } else { latency }) + bytes / share")]),
