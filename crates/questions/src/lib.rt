@@ -7,7 +7,6 @@ use rules::Flows;
 use rules::NextDone;
 use rules::Outcome;
 use rules::Transfer;
-use slots::Lookup;
 ghost use mathlib.Core.Path.{_≡_};
 ghost use Rattle.rules.specs.Refusals.{no-such-edge};
 ghost use Rattle.rules.specs.Questions.{next-completion-delay, delay-until, rate, rate-in, mean-in-flight, mean-over, edge as the-edge};
@@ -60,11 +59,11 @@ pub fn rate(flows: Flows, id: u32) -> Outcome
 fn rate_in(in_flight: [Transfer; 256], id: u32) -> Answer
     ensures { λ r. ⌜ r ≡ rate-in id in_flight ⌝ }
 {
-    let Lookup::Slot(i) = slots::find(in_flight, id) else {
-        return Answer::Unknown;
-    };
-    let t = in_flight[i];
-    Answer::Value(t.rate)
+    let t = slots::of_id(in_flight, id);
+    if t.taken {
+        return Answer::Value(t.rate);
+    }
+    Answer::Unknown
 }
 
 // ---- edges

@@ -1,5 +1,5 @@
 -- What it means that a search found a slot, or none: who is there, and what is asked of the transfer with that id. Assumes nothing.
-use mathlib.Core.Path.{_≡_, refl, sym, _∙_}
+use mathlib.Core.Path.{_≡_, refl, sym, ap, _∙_}
 use mathlib.Core.Bool.{Bool, true, false, cond}
 use mathlib.Core.List.{List, [], _∷_}
 use Prim.Native.Nat.{ℕ, zero, suc, _+_, _<_}
@@ -74,12 +74,28 @@ nowhere id slots e = read-says id slots Nowhere e
 pub somewhere : (id : ℕ) (slots : List Transfer) (i : ℕ) → lookup id slots ≡ Slot i → Found id slots i
 somewhere id slots i e = let s = read-says id slots (Slot i) e in let p : s .0 ≡ i = omega (arith, s .1) in rw p at (s .2)
 
--- ---- one slot for an id
+-- ---- what is asked of the transfer with an id
 
 -- who has an id is in flight under it
 pub holds-id : (id : ℕ) (t : Transfer) → has-id id t ≡ true → (t .taken ≡ true) × (t .id ≡ id)
 unfolding has-id
 holds-id id t e = let w = both (t .taken) (eqb (t .id) id) e in (w .0, eqb-true (t .id) id (w .1))
+
+asked-itself : {A : Type 0} (id : ℕ) (none : A) (some : Transfer → A) (slots : List Transfer) → let t = of-id id free (λ t. t) slots in of-id id none some slots ≡ cond (t .taken) (some t) none
+unfolding of-id
+asked-itself id none some [] = refl
+asked-itself id none some (t ∷ slots) = go (has-id id t) (λ e. holds-id id t e .0) (asked-itself id none some slots)
+  where
+    go : (b : Bool) → (b ≡ true → t .taken ≡ true) → let rest = of-id id free (λ u. u) slots in of-id id none some slots ≡ cond (rest .taken) (some rest) none
+        → let t′ = cond b t rest in cond b (some t) (of-id id none some slots) ≡ cond (t′ .taken) (some t′) none
+    go true taken same = rw (taken refl) refl
+    go false taken same = same
+
+-- it is asked of the transfer itself, where that is no blank
+pub asked-of : {A : Type 0} (id : ℕ) (none : A) (some : Transfer → A) (slots : List Transfer) (t : Transfer) → t ≡ of-id id free (λ t. t) slots → (b : Bool) → t .taken ≡ b → cond b (some t) none ≡ of-id id none some slots
+asked-of id none some slots t same b e = ap (λ (c : Bool). cond c (some t) none) (sym e) ∙ ap (λ (u : Transfer). cond (u .taken) (some u) none) same ∙ sym (asked-itself id none some slots)
+
+-- ---- one slot for an id
 
 pub one-slot : {f : Flows} → Invariant f → (id i j : ℕ) → has-id id (getD (f .«in_flight») i free) ≡ true → has-id id (getD (f .«in_flight») j free) ≡ true → i ≡ j
 one-slot {f} inv id i j a b =

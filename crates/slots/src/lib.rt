@@ -3,7 +3,7 @@ use rules::Transfer;
 ghost use Prim.Native.Nat.{_≤_, _<_};
 ghost use mathlib.Core.Path.{_≡_};
 ghost use Rattle.rules.specs.Lists.{count};
-ghost use Rattle.rules.specs.Records.{has-id};
+ghost use Rattle.rules.specs.Records.{free, has-id, of-id};
 ghost use Rattle.slots.specs.Lookup.{lookup, first-free};
 
 // Where a transfer was found.
@@ -25,6 +25,17 @@ pub fn find(in_flight: [Transfer; 256], id: u32) -> Lookup
         i += 1;
     }
     Lookup::Nowhere
+}
+
+// The transfer with that id, or the blank where none is in flight.
+pub fn of_id(in_flight: [Transfer; 256], id: u32) -> Transfer
+    ensures { λ r. ⌜ r ≡ of-id id free (λ t. t) in_flight ⌝ }
+{
+    let Lookup::Slot(i) = find(in_flight, id) else {
+        return Transfer::free();
+    };
+    let t = in_flight[i];
+    t
 }
 
 // The lowest slot that holds nobody, where not all are taken.

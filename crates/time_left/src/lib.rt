@@ -6,7 +6,6 @@ use rules::Flows;
 use rules::Outcome;
 use rules::TimeLeft;
 use rules::Transfer;
-use slots::Lookup;
 ghost use mathlib.Core.Path.{_≡_};
 ghost use Rattle.rules.specs.TimeLeft.{settle, or-cannot-finish, remaining-in, behind, remaining};
 ghost use Rattle.rules.specs.Invariant.{Invariant};
@@ -44,11 +43,11 @@ pub fn remaining(flows: Flows, id: u32) -> TimeLeft
 fn remaining_in(in_flight: [Transfer; 256], id: u32, eps: f64) -> Answer
     ensures { λ r. ⌜ r ≡ remaining-in id eps in_flight ⌝ }
 {
-    let Lookup::Slot(i) = slots::find(in_flight, id) else {
-        return Answer::Unknown;
-    };
-    let t = in_flight[i];
-    or_cannot_finish(transfers::time_to_done(t, eps))
+    let t = slots::of_id(in_flight, id);
+    if t.taken {
+        return or_cannot_finish(transfers::time_to_done(t, eps));
+    }
+    Answer::Unknown
 }
 
 // A delay as an answer; one that never ends is no time.
