@@ -43,6 +43,7 @@ pub fn make(flows: Flows, call: Call, path: &[u32], lent: &mut [u32]) -> Made
             asking(flows, Said::Answered(answer))
         }
         Call::Rate(id) => changing(questions::rate(flows, id)),
+        Call::Bottleneck(id) => changing(questions::bottleneck(flows, id)),
         Call::Edge(edge) => asking(flows, Said::Edge(questions::edge(flows, edge))),
         Call::Contains(id) => asking(flows, Said::Truth(totals::contains(flows, id))),
         Call::Rounds => asking(flows, Said::Number(totals::rounds(flows))),

@@ -10,7 +10,7 @@ use lib.Seq.{length-take-le, getD-take}
 use Rattle.rules.specs.declared.Seat.{Seat}
 use Rattle.rules.specs.declared.Best.the-variants.{Nobody}
 use Rattle.rules.proofs.Steps.{getD-any}
-use Rattle.fairness.specs.Ready.{no-seat}
+use Rattle.rules.specs.Filling.{no-seat}
 use Rattle.caps.specs.Order.{capped, frozen-front, first-cap}
 use Rattle.caps.specs.declared.CapOrder.{CapOrder}
 use Rattle.caps.specs.Listed.{listed, Sized, Passed}

@@ -11,14 +11,14 @@ use borrow.Author.Tests.{lt-ltb}
 use Rattle.doubles.specs.Doubles.{Plain}
 use Rattle.doubles.specs.Exact.{exact}
 use Rattle.rules.specs.declared.Cap.the-variants.{AtMost}
+use Rattle.rules.specs.declared.Limit.the-variants.{Nowhere}
 use Rattle.rules.specs.declared.Edge.{Edge}
 use Rattle.rules.specs.declared.Transfer.{Transfer}
 use Rattle.rules.specs.declared.Seat.{Seat}
 use Rattle.rules.specs.Lists.{sum, crossings}
 use Rattle.rules.specs.Records.{blank-edge, free}
-use Rattle.rules.specs.Filling.{takes-part, Filling, lone-rate, entered, seat, start, load}
+use Rattle.rules.specs.Filling.{takes-part, Filling, with-rate, lone-rate, entered, seat, start, load, no-seat, seat-at}
 use Rattle.rules.specs.Fair.{in-demand}
-use Rattle.fairness.specs.Ready.{no-seat, seat-at}
 use Rattle.fairness.proofs.Reading.{KeepsPath}
 use Rattle.rules.proofs.Counting.{count-all}
 use Rattle.fairness.proofs.Choice.{left-of, load-of}
@@ -54,16 +54,16 @@ module _ (path : Transfer → List ℕ) where
     unfolding seat entered in-demand
     seat-not-given t = go (takes-part t) refl (path t) refl
       where
-        go : (b : Bool) → takes-part t ≡ b → (p : List ℕ) → path t ≡ p → given path edges (cond b (entered p t) (record { transfer = t; unfrozen = false })) ≡ false
-        go false e p q = rw e refl
-        go true e [] q = in-demand-kept path edges kept (lone-rate (t .«rate_cap»)) t ∙ rw (q, e) refl
+        go : (b : Bool) → takes-part t ≡ b → (p : List ℕ) → path t ≡ p → given path edges (cond b (entered p t) (record { transfer = with-rate (t .rate) Nowhere t; unfrozen = false })) ≡ false
+        go false e p q = in-demand-kept path edges kept (t .rate) Nowhere t ∙ rw e refl
+        go true e [] q = in-demand-kept path edges kept (lone-rate (t .«rate_cap»)) Nowhere t ∙ rw (q, e) refl
         go true e (x ∷ p) q = refl
 
     module _ (slots : List Transfer) where
       abbrev begin : Filling
       begin = start path edges slots
 
-      none-given : (i : ℕ) → given path edges (seat-at begin i) ≡ false
+      pub none-given : (i : ℕ) → given path edges (seat-at begin i) ≡ false
       none-given i = rw (start-seat path edges slots i) (seat-not-given (getD slots i free))
 
       -- so nothing of it is given or carried

@@ -18,8 +18,7 @@ use Rattle.rules.specs.declared.Cap.the-variants.{AtMost, Uncapped}
 use Rattle.rules.specs.declared.Transfer.{Transfer}
 use Rattle.rules.specs.declared.Best.{Best}
 use Rattle.rules.specs.declared.Best.the-variants.{At, Nobody}
-use Rattle.rules.specs.Filling.{Filling, tightest, load, share, winning-edge, own-cap, smallest-cap}
-use Rattle.fairness.specs.Ready.{no-seat, seat-at}
+use Rattle.rules.specs.Filling.{Filling, tightest, load, share, winning-edge, own-cap, smallest-cap, no-seat, seat-at}
 use Rattle.fairness.proofs.Tightest.{PlainOf, Least, tightest-least}
 use Rattle.fairness.proofs.Shares.{smallest-least as least-of-shares}
 use Rattle.fairness.proofs.Loads.{unfrozen-inside, Winning, smallest-is}

@@ -13,23 +13,18 @@ use lib.Ieee.{Float}
 use borrow.Author.Tests.{ltb-true, ltb-false}
 use Rattle.doubles.specs.Exact.{exact}
 use Rattle.rules.specs.declared.Cap.the-variants.{AtMost}
+use Rattle.rules.specs.declared.Limit.{Limit}
 use Rattle.rules.specs.declared.Edge.{Edge}
 use Rattle.rules.specs.declared.Transfer.{Transfer}
 use Rattle.rules.specs.declared.Seat.{Seat}
 use Rattle.rules.specs.Lists.{count, crossings}
 use Rattle.rules.specs.Records.{free}
-use Rattle.rules.specs.Filling.{Filling}
-use Rattle.rules.specs.Fair.{in-demand, C, k, slack-of, carried, Fair}
-use Rattle.fairness.specs.Ready.{no-seat, seat-at}
+use Rattle.rules.specs.Filling.{Filling, no-seat, seat-at}
+use Rattle.rules.specs.Fair.{in-demand, C, k, slack-of, carried, Fair, Explains, Limits}
 use Rattle.fairness.proofs.Account.{good-sum, full-floor}
 use Rattle.fairness.proofs.Sums.{given, k-splits, carried-is, spent-under}
+use Rattle.fairness.proofs.Verdicts.{AtOwnCap}
 use Rattle.fairness.proofs.Settled.{capacity-of, step-of, gone-of, spent-of, Bottleneck, Settled, Fills}
-
--- Edge e explains why the transfer in slot i isn't faster: it carries at least its capacity minus slack, and nobody of the demand on it runs faster by more than slack.
-pub record Explains (path : Transfer → List ℕ) (edges : List Edge) (ts : List Transfer) (i e : ℕ) : Type 0 where
-  pub crossed : 0 < crossings e (path (getD ts i free))
-  pub carries : C edges e ≤ carried path ts e + slack-of path edges ts e
-  pub nobody-faster : (j : ℕ) → T (in-demand path (getD ts j free)) → 0 < crossings e (path (getD ts j free)) → exact (getD ts j free .rate) ≤ exact (getD ts i free .rate) + slack-of path edges ts e
 
 module _ (path : Transfer → List ℕ) (edges : List Edge) (K : ℕ → ℕ) (f : Filling) (fills : Fills path edges K f) (over : (i : ℕ) → seat-at f i .unfrozen ≡ false) where
   -- the transfers with their rates
@@ -42,7 +37,7 @@ module _ (path : Transfer → List ℕ) (edges : List Edge) (K : ℕ → ℕ) (f
   given-at : (i : ℕ) → T (in-demand path (getD ts i free)) → given path edges (seat-at f i) ≡ true
   given-at i h = rw (over i) (is-true (in-demand path (seat-at f i .transfer)) (rw (transfer-at i) at h))
 
-  settled-at : (i : ℕ) → T (in-demand path (getD ts i free)) → Settled path edges K f (getD ts i free .«rate_cap») (path (getD ts i free)) (getD ts i free .rate)
+  settled-at : (i : ℕ) → T (in-demand path (getD ts i free)) → Settled path edges K f (getD ts i free .«rate_cap») (path (getD ts i free)) (getD ts i free .rate) (getD ts i free .limit)
   settled-at i h = rw (transfer-at i) (fills .settled i (given-at i h))
 
   -- what the accounts are kept of is what the demand counts
@@ -59,15 +54,15 @@ module _ (path : Transfer → List ℕ) (edges : List Edge) (K : ℕ → ℕ) (f
   carried-here : (e : ℕ) → carried path ts e ≡ spent-of path edges f e
   carried-here e = carried-is path edges e (f .seats) over
 
-  -- slot i runs at its cap, or else P
+  -- slot i is limited by its cap and runs at it, or else P
   abbrev AtCapOr : ℕ → Type 0 → Type 0
-  AtCapOr i P = (getD ts i free .«rate_cap» ≡ AtMost (getD ts i free .rate)) ⊎ P
+  AtCapOr i P = AtOwnCap (getD ts i free .«rate_cap») (getD ts i free .rate) (getD ts i free .limit) ⊎ P
 
   -- its bottleneck is an edge that there is
-  at-cap-or-bottleneck : (i : ℕ) → T (in-demand path (getD ts i free)) → AtCapOr i ((b : Bottleneck path edges K f (path (getD ts i free)) (getD ts i free .rate)) × (b .edge < length edges))
+  at-cap-or-bottleneck : (i : ℕ) → T (in-demand path (getD ts i free)) → AtCapOr i ((b : Bottleneck path edges K f (path (getD ts i free)) (getD ts i free .rate) (getD ts i free .limit)) × (b .edge < length edges))
   at-cap-or-bottleneck i h = go (settled-at i h .why)
     where
-      go : AtCapOr i (Bottleneck path edges K f (path (getD ts i free)) (getD ts i free .rate)) → AtCapOr i ((b : Bottleneck path edges K f (path (getD ts i free)) (getD ts i free .rate)) × (b .edge < length edges))
+      go : AtCapOr i (Bottleneck path edges K f (path (getD ts i free)) (getD ts i free .rate) (getD ts i free .limit)) → AtCapOr i ((b : Bottleneck path edges K f (path (getD ts i free)) (getD ts i free .rate) (getD ts i free .limit)) × (b .edge < length edges))
       go (inl own) = inl own
       go (inr b) = inr (b, settled-at i h .known (b .edge) (b .crossed))
 
@@ -88,32 +83,35 @@ module _ (path : Transfer → List ℕ) (edges : List Edge) (K : ℕ → ℕ) (f
 
   -- ---- the freezing edge
 
-  module _ {p : List ℕ} {rate : Float} (b : Bottleneck path edges K f p rate) (known : b .edge < length edges) where
+  module _ {p : List ℕ} {rate : Float} {limit : Limit} (b : Bottleneck path edges K f p rate limit) (known : b .edge < length edges) where
     -- all its crossings are given, and none is faster by more than K steps
     spent-low : spent-of path edges f (b .edge) ≤ K (b .edge) * (exact rate + K (b .edge) * step-of edges (b .edge))
     spent-low =
         let all : gone-of path edges f (b .edge) ≡ K (b .edge) = omega (arith, fills .accounts (b .edge) known .good .count, b .used-up) in
         rw all at (spent-under path edges (b .edge) (exact rate + K (b .edge) * step-of edges (b .edge)) (f .seats) (b .top))
 
+    -- it carries its capacity but for the slack
+    carries : C edges (b .edge) ≤ carried path ts (b .edge) + slack-of path edges ts (b .edge)
+    unfolding C
+    carries = omega (arith, carried-here (b .edge), slack-is (b .edge) known, b .full)
+
+    -- nobody of the demand on it is faster but for the slack
+    nobody-faster : (j : ℕ) → T (in-demand path (getD ts j free)) → 0 < crossings (b .edge) (path (getD ts j free)) → exact (getD ts j free .rate) ≤ exact rate + slack-of path edges ts (b .edge)
+    nobody-faster j h c =
+        let top : exact (getD ts j free .rate) ≤ exact rate + K (b .edge) * step-of edges (b .edge) = rw (transfer-at j) (b .top j (given-at j h) (rw (transfer-at j) at c)) in
+        omega (arith, slack-is (b .edge) known)
+
+    -- and its share is at the least its capacity over its crossings, but for the slack
     floor : C edges (b .edge) ≤ k path ts (b .edge) * (exact rate + slack-of path edges ts (b .edge))
     unfolding C
     floor = rw (k-is (b .edge) known, slack-is (b .edge) known) (full-floor (step-of edges (b .edge)) (exact (capacity-of edges (b .edge))) (K (b .edge)) (spent-of path edges f (b .edge)) (exact rate) (b .full) spent-low)
 
-  no-less : (i : ℕ) → T (in-demand path (getD ts i free)) → AtCapOr i ((e : ℕ) × (0 < crossings e (path (getD ts i free))) × (C edges e ≤ k path ts e * (exact (getD ts i free .rate) + slack-of path edges ts e)))
-  no-less i h = elim (at-cap-or-bottleneck i h) [ inl own ↦ inl own | inr (b, known) ↦ inr (b .edge, b .crossed, floor b known) ]
+  no-less : (i : ℕ) → T (in-demand path (getD ts i free)) → (getD ts i free .«rate_cap» ≡ AtMost (getD ts i free .rate)) ⊎ ((e : ℕ) × (0 < crossings e (path (getD ts i free))) × (C edges e ≤ k path ts e * (exact (getD ts i free .rate) + slack-of path edges ts e)))
+  no-less i h = elim (at-cap-or-bottleneck i h) [ inl (at, own) ↦ inl own | inr (b, known) ↦ inr (b .edge, b .crossed, floor b known) ]
 
-  bottleneck-explains : (i : ℕ) (b : Bottleneck path edges K f (path (getD ts i free)) (getD ts i free .rate)) → b .edge < length edges → Explains path edges ts i (b .edge)
-  unfolding C
-  bottleneck-explains i b known = record {
-    crossed = b .crossed;
-    carries = rw (carried-here (b .edge), slack-is (b .edge) known) (omega (arith, b .full));
-    nobody-faster = λ j h c.
-        let top : exact (getD ts j free .rate) ≤ exact (getD ts i free .rate) + K (b .edge) * step-of edges (b .edge) = rw (transfer-at j) (b .top j (given-at j h) (rw (transfer-at j) at c)) in
-        rw (slack-is (b .edge) known) (omega arith);
-  }
-
-  pub explained : (i : ℕ) → T (in-demand path (getD ts i free)) → AtCapOr i ((e : ℕ) × Explains path edges ts i e)
-  explained i h = elim (at-cap-or-bottleneck i h) [ inl own ↦ inl own | inr (b, known) ↦ inr (b .edge, bottleneck-explains i b known) ]
+  -- the limit of a transfer of the demand is so
+  pub limited : (i : ℕ) → T (in-demand path (getD ts i free)) → Limits path edges ts i (getD ts i free .limit)
+  limited i h = elim (at-cap-or-bottleneck i h) [ inl (at, own) ↦ rw at own | inr (b, known) ↦ rw (b .named) (record { crossed = b .crossed; carries = carries b known; nobody-faster = nobody-faster b known }) ]
 
   -- ---- all of it
 

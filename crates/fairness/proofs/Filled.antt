@@ -1,14 +1,14 @@
--- A whole filling: from a start that can be filled the rounds keep the accounts, leave who takes no part as it was, and end with everybody of the demand settled. Assumes nothing.
-use mathlib.Core.Path.{_≡_, refl, sym, _∙_}
-use mathlib.Core.Logic.{_⊎_}
+-- A whole filling: from a start that can be filled the rounds keep the accounts, leave who takes no part at its rate, and end with everybody of the demand settled. Assumes nothing.
+use mathlib.Core.Path.{_≡_, refl, sym, ap, _∙_}
 use mathlib.Core.Bool.{Bool, true, false, true≢false}
 use mathlib.Core.List.{List, map}
 use Prim.Native.Nat.{ℕ, _^_, _≤_, _<_}
 use native.Mathlib.Nat.{le-refl, le-trans}
 use native.Mathlib.Omega.{arith}
 use lib.Dec.{T}
-use lib.ListN.{length, getD, length-map}
+use lib.ListN.{length, getD, length-map, List·getD-map}
 use lib.Ieee.{Float}
+use lib.Ieee.Bits.{is-true}
 use Rattle.doubles.specs.Doubles.{Plain}
 use Rattle.rules.specs.declared.Cap.the-variants.{AtMost}
 use Rattle.rules.specs.declared.Edge.{Edge}
@@ -16,20 +16,21 @@ use Rattle.rules.specs.declared.Transfer.{Transfer}
 use Rattle.rules.specs.declared.Seat.{Seat}
 use Rattle.rules.specs.Lists.{count, sum}
 use Rattle.rules.specs.Records.{free}
-use Rattle.rules.specs.Filling.{takes-part, Filling, with-rate, seat, start, freeze, frozen-by, round, num-unfrozen, recompute-rates}
-use Rattle.rules.specs.Fair.{in-demand, Fair}
-use Rattle.fairness.specs.Ready.{no-seat, seat-at, Ready}
-use Rattle.fairness.proofs.Reading.{KeepsPath}
+use Rattle.rules.specs.Filling.{takes-part, Filling, with-rate, seat, start, freeze, frozen-by, round, num-unfrozen, recompute-rates, no-seat, seat-at, verdict-of}
+use Rattle.rules.specs.Fair.{in-demand, Fair, Explained, FrozenInRound}
+use Rattle.fairness.specs.Ready.{Ready}
+use Rattle.fairness.proofs.Reading.{Steady, KeepsPath}
 use Rattle.rules.proofs.Counting.{count-kept, count-map, count-most, none-of-count}
 use Rattle.fairness.proofs.Loads.{unfrozen-inside}
 use Rattle.fairness.proofs.Choice.{load-of}
-use Rattle.fairness.proofs.Rounds.{verdict-of, frozen-stays, freeze-keeps, round-seats, round-seat, round-keeps, rounds-bound, in-the-end}
-use Rattle.fairness.proofs.Start.{seat-keeps, start-seat, start-ready}
-use Rattle.fairness.proofs.Sums.{in-demand-kept}
+use Rattle.fairness.proofs.Rounds.{frozen-stays, freeze-keeps, round-seats, round-seat, round-keeps, rounds-bound, in-the-end}
+use Rattle.fairness.proofs.InRound.{in-one-round}
+use Rattle.fairness.proofs.Start.{seat-enters, seat-keeps, seat-nowhere, start-seat, start-ready}
+use Rattle.fairness.proofs.Sums.{given, in-demand-kept}
 use Rattle.fairness.proofs.Settled.{capacity-of, Sound, Fills}
 use Rattle.fairness.proofs.Freezing.{fills-round}
-use Rattle.fairness.proofs.Begins.{load-few, fills-start}
-use Rattle.fairness.proofs.Ended.{Explains, fair, explained}
+use Rattle.fairness.proofs.Begins.{load-few, enters-in-demand, none-given, fills-start}
+use Rattle.fairness.proofs.Ended.{fair, limited}
 
 -- ---- what a filling starts from
 
@@ -76,8 +77,8 @@ module _ {path : Transfer → List ℕ} {edges : List Edge} {slots : List Transf
   unfolding start
   filled-length = through (λ (f : Filling). length (f .seats) ≡ length slots) (λ f ready some-left same. round-seats path f ∙ same) (length-map slots (seat path)) .0
 
-  -- a transfer keeps all but its rate
-  pub filled-keeps : {A : Type 0} (g : Transfer → A) → ((rate : Float) (t : Transfer) → g (with-rate rate t) ≡ g t) → (i : ℕ) → g (seat-at filled i .transfer) ≡ g (getD slots i free)
+  -- a transfer keeps all but its rate and limit
+  pub filled-keeps : {A : Type 0} (g : Transfer → A) → Steady g → (i : ℕ) → g (seat-at filled i .transfer) ≡ g (getD slots i free)
   filled-keeps g kept = through (λ (f : Filling). (i : ℕ) → g (seat-at f i .transfer) ≡ g (getD slots i free)) (λ f ready some-left same i. round-keeps path g kept f i ∙ same i) first .0
     where
       first : (i : ℕ) → g (seat-at begin i .transfer) ≡ g (getD slots i free)
@@ -119,7 +120,41 @@ module _ {path : Transfer → List ℕ} {edges : List Edge} {slots : List Transf
   pub filled-fair : Fair path edges filled-transfers (filled .rounds)
   filled-fair = fair path edges (load-of path begin) filled filled-fills filled-over (filled .rounds) filled-rounds
 
-  -- everybody of the demand runs at its cap, or an edge explains why not faster
-  pub filled-explained : (i : ℕ) → T (in-demand path (getD filled-transfers i free))
-      → (getD filled-transfers i free .«rate_cap» ≡ AtMost (getD filled-transfers i free .rate)) ⊎ ((e : ℕ) × Explains path edges filled-transfers i e)
-  filled-explained = explained path edges (load-of path begin) filled filled-fills filled-over
+  -- ---- why nobody is faster
+
+  transfer-at : (i : ℕ) → getD filled-transfers i free ≡ seat-at filled i .transfer
+  transfer-at i = List·getD-map (λ (s : Seat). s .transfer) (filled .seats) i no-seat
+
+  -- who isn't of the demand starts frozen
+  idle : (i : ℕ) → in-demand path (seat-at filled i .transfer) ≡ false → seat path (getD slots i free) .unfrozen ≡ false
+  idle i h = go (seat path (getD slots i free) .unfrozen) refl
+    where
+      go : (b : Bool) → seat path (getD slots i free) .unfrozen ≡ b → b ≡ false
+      go false u = refl
+      go true u =
+          let enters = enters-in-demand path (fillable .path-kept) edges (getD slots i free) (seat-enters path (getD slots i free) u) in
+          absurd (true≢false (sym enters ∙ sym (filled-keeps (in-demand path) (in-demand-kept path edges (fillable .path-kept)) i) ∙ h))
+
+  pub filled-explained : Explained path edges filled-transfers
+  filled-explained = record {
+    limited = limited path edges (load-of path begin) filled filled-fills filled-over;
+    others = λ i h. let out = idle i (rw (transfer-at i) at h) in rw (transfer-at i, filled-stays i out) (seat-nowhere path (getD slots i free) out);
+  }
+
+  -- who is of the demand starts unfrozen
+  waits : (i : ℕ) → in-demand path (seat-at filled i .transfer) ≡ true → seat-at begin i .unfrozen ≡ true
+  waits i h = go (seat-at begin i .unfrozen) refl
+    where
+      go : (b : Bool) → seat-at begin i .unfrozen ≡ b → b ≡ true
+      go true u = refl
+      go false u =
+          let still : seat-at filled i ≡ seat-at begin i = filled-stays i (rw (sym (start-seat path edges slots i)) u) ∙ sym (start-seat path edges slots i) in
+          let demanded : given path edges (seat-at begin i) ≡ true = rw (u, sym still) h in
+          absurd (true≢false (sym demanded ∙ none-given path (fillable .path-kept) edges slots i))
+
+  -- and so some round freezes it
+  pub filled-in-round : (i : ℕ) → T (in-demand path (getD filled-transfers i free)) → FrozenInRound path edges slots i
+  unfolding recompute-rates with-rate
+  filled-in-round i h =
+      let r = in-one-round path (num-unfrozen begin) begin i (waits i (is-true (in-demand path (seat-at filled i .transfer)) (rw (transfer-at i) at h))) (filled-over i) in
+      record { before = r .before; froze = r .froze; rate = ap (λ (s : Seat). s .transfer .rate) (r .left); limit = ap (λ (s : Seat). s .transfer .limit) (r .left) }

@@ -11,21 +11,21 @@ use lib.ListN.{length, getD}
 use lib.Ieee.{Float}
 use Rattle.doubles.specs.Exact.{exact}
 use Rattle.rules.specs.declared.Cap.{Cap}
-use Rattle.rules.specs.declared.Cap.the-variants.{AtMost}
+use Rattle.rules.specs.declared.Limit.{Limit}
 use Rattle.rules.specs.declared.Edge.{Edge}
 use Rattle.rules.specs.declared.Transfer.{Transfer}
 use Rattle.rules.specs.Lists.{crossings}
-use Rattle.rules.specs.Filling.{Filling, with-rate, freezes, freeze, crossings-frozen, round, num-unfrozen}
+use Rattle.rules.specs.Filling.{Filling, with-rate, freezes, freeze, crossings-frozen, round, num-unfrozen, seat-at, verdict-of}
 use Rattle.rules.specs.Fair.{in-demand}
-use Rattle.fairness.specs.Ready.{seat-at, Ready}
+use Rattle.fairness.specs.Ready.{Ready}
 use Rattle.rules.proofs.Crossings.{crosses-some}
 use Rattle.fairness.proofs.Loads.{waits-in-load, load-is-waited}
 use Rattle.fairness.proofs.Choice.{left-of, load-of}
-use Rattle.fairness.proofs.Rounds.{frozen-at, verdict-of, rate-of, freezes-both, freeze-freezes, never-unfreezes, round-seat, round-keeps, round-path, round-edges}
+use Rattle.fairness.proofs.Rounds.{frozen-at, rate-of, limit-of, freezes-both, freeze-freezes, never-unfreezes, round-seat, round-keeps, round-path, round-edges}
 use Rattle.fairness.proofs.Account.{AtLeastShare, paced-new, good-full, good-top}
 use Rattle.fairness.proofs.Edge.{at-least-share, share-under}
 use Rattle.fairness.proofs.Sums.{given, in-demand-kept}
-use Rattle.fairness.proofs.Verdicts.{SharesOut, Chosen}
+use Rattle.fairness.proofs.Verdicts.{AtOwnCap, SharesOut, Chosen}
 use Rattle.fairness.proofs.Settled.{Sound, capacity-of, step-of, gone-of, spent-of, Bottleneck, Settled, SettledSeat, Fills, choice-of, load-round, spent-round, few-load, fair-share, account-on, paced-on}
 
 module _ (path : Transfer → List ℕ) (edges : List Edge) (f : Filling) where
@@ -35,14 +35,14 @@ module _ (path : Transfer → List ℕ) (edges : List Edge) (f : Filling) where
 
   -- slot i is frozen by the round, at its rate
   abbrev Now : ℕ → Type 0
-  Now i = (freezes path (verdict-of path f) i (seat-at f i) ≡ true) × (seat-at (round path f) i ≡ frozen-at (rate-of path f) (seat-at f i))
+  Now i = (freezes path (verdict-of path f) i (seat-at f i) ≡ true) × (seat-at (round path f) i ≡ frozen-at (verdict-of path f) (seat-at f i))
 
   -- there is no third way to a rate
   given-cases : (i : ℕ) → given path edges (seat-at (round path f) i) ≡ true → Before i ⊎ Now i
   unfolding freeze
   given-cases i h = go (freezes path (verdict-of path f) i (seat-at f i)) refl (round-seat path f i)
     where
-      go : (b : Bool) → freezes path (verdict-of path f) i (seat-at f i) ≡ b → seat-at (round path f) i ≡ cond b (frozen-at (rate-of path f) (seat-at f i)) (seat-at f i) → Before i ⊎ Now i
+      go : (b : Bool) → freezes path (verdict-of path f) i (seat-at f i) ≡ b → seat-at (round path f) i ≡ cond b (frozen-at (verdict-of path f) (seat-at f i)) (seat-at f i) → Before i ⊎ Now i
       go true e same = inr (e, same)
       go false e same = inl (sym (ap (given path edges) same) ∙ h, same)
 
@@ -53,13 +53,13 @@ module _ {path : Transfer → List ℕ} {edges : List Edge} {K : ℕ → ℕ} (s
 
   -- ---- what was settled stays so
 
-  bottleneck-kept : {p : List ℕ} {rate : Float} → Bottleneck path edges K f p rate → Bottleneck path edges K f′ p rate
-  bottleneck-kept {p} {rate} b =
+  bottleneck-kept : {p : List ℕ} {rate : Float} {limit : Limit} → Bottleneck path edges K f p rate limit → Bottleneck path edges K f′ p rate limit
+  bottleneck-kept {p} {rate} {limit} b =
       let e = b .edge in
       let falls = load-round sound fills choice e in
       let none : crossings-frozen path (verdict-of path f) (f .seats) e ≡ 0 = omega (arith, b .used-up) in
       let same : spent-of path edges f′ e ≡ spent-of path edges f e + 0 * exact (rate-of path f) = rw none at (spent-round sound fills choice e) in
-      record { edge = e; crossed = b .crossed; used-up = omega (arith, b .used-up); full = omega (arith, b .full); top = λ j g c. go j c (given-cases path edges f j g) }
+      record { edge = e; named = b .named; crossed = b .crossed; used-up = omega (arith, b .used-up); full = omega (arith, b .full); top = λ j g c. go j c (given-cases path edges f j g) }
     where
       go : (j : ℕ) → 0 < crossings (b .edge) (path (seat-at f′ j .transfer))
           → Before path edges f j ⊎ Now path edges f j
@@ -69,8 +69,8 @@ module _ {path : Transfer → List ℕ} {edges : List Edge} {K : ℕ → ℕ} (s
           let c′ : 0 < crossings (b .edge) (path (seat-at f j .transfer)) = rw (round-path path (sound .path-kept) f j) at c in
           absurd (omega (arith, waits-in-load path (f .seats) j (b .edge) (freezes-both path (verdict-of path f) j (seat-at f j) h .0), b .used-up))
 
-  settled-kept : {cap : Cap} {p : List ℕ} {rate : Float} → Settled path edges K f cap p rate → Settled path edges K f′ cap p rate
-  settled-kept {cap} {p} {rate} s = record {
+  settled-kept : {cap : Cap} {p : List ℕ} {rate : Float} {limit : Limit} → Settled path edges K f cap p rate limit → Settled path edges K f′ cap p rate limit
+  settled-kept {cap} {p} {rate} {limit} s = record {
     plain = s .plain;
     under-cap = s .under-cap;
     known = s .known;
@@ -79,7 +79,7 @@ module _ {path : Transfer → List ℕ} {edges : List Edge} {K : ℕ → ℕ} (s
     why = go (s .why);
   }
     where
-      go : (cap ≡ AtMost rate) ⊎ Bottleneck path edges K f p rate → (cap ≡ AtMost rate) ⊎ Bottleneck path edges K f′ p rate
+      go : AtOwnCap cap rate limit ⊎ Bottleneck path edges K f p rate limit → AtOwnCap cap rate limit ⊎ Bottleneck path edges K f′ p rate limit
       go (inl own) = inl own
       go (inr b) = inr (bottleneck-kept b)
 
@@ -143,9 +143,10 @@ module _ {path : Transfer → List ℕ} {edges : List Edge} {K : ℕ → ℕ} (s
               (fills .accounts e (on .0) .good) (on .1) share-given (fills .settled j g .paced e (rw same at c)))
           go (inr (h, same)) = rw same (omega arith)
 
-      bottleneck-new : Bottleneck path edges K f′ (path t) (rate-of path f)
+      bottleneck-new : Bottleneck path edges K f′ (path t) (rate-of path f) (limit-of path f)
       bottleneck-new = record {
         edge = e;
+        named = o .named;
         crossed = o .crossed;
         used-up = emptied;
         full =
@@ -154,7 +155,7 @@ module _ {path : Transfer → List ℕ} {edges : List Edge} {K : ℕ → ℕ} (s
         top = nobody-faster;
       }
 
-    settled-new : Settled path edges K f′ (t .«rate_cap») (path t) (rate-of path f)
+    settled-new : Settled path edges K f′ (t .«rate_cap») (path t) (rate-of path f) (limit-of path f)
     settled-new = record {
       plain = choice .plain;
       under-cap = choice .under-cap i h;
@@ -168,7 +169,8 @@ module _ {path : Transfer → List ℕ} {edges : List Edge} {K : ℕ → ℕ} (s
       why = go (choice .why i h);
     }
       where
-        go : (t .«rate_cap» ≡ AtMost (rate-of path f)) ⊎ SharesOut path f (verdict-of path f) (rate-of path f) i → (t .«rate_cap» ≡ AtMost (rate-of path f)) ⊎ Bottleneck path edges K f′ (path t) (rate-of path f)
+        go : AtOwnCap (t .«rate_cap») (rate-of path f) (limit-of path f) ⊎ SharesOut path f (verdict-of path f) (rate-of path f) i
+            → AtOwnCap (t .«rate_cap») (rate-of path f) (limit-of path f) ⊎ Bottleneck path edges K f′ (path t) (rate-of path f) (limit-of path f)
         go (inl own) = inl own
         go (inr o) = inr (bottleneck-new o)
 
@@ -181,14 +183,14 @@ module _ {path : Transfer → List ℕ} {edges : List Edge} {K : ℕ → ℕ} (s
       go : Before path edges f i ⊎ Now path edges f i
           → SettledSeat path edges K f′ (seat-at f′ i)
       go (inl (g, same)) = rw same (settled-kept (fills .settled i g))
-      go (inr (h, same)) = rw (same, sound .path-kept (rate-of path f) (seat-at f i .transfer)) (settled-new i h)
+      go (inr (h, same)) = rw (same, sound .path-kept (rate-of path f) (limit-of path f) (seat-at f i .transfer)) (settled-new i h)
 
   fills-on : Fills path edges K f′
   unfolding with-rate
   fills-on = record {
     long = round-edges path f ∙ fills .long;
     demanding = λ i u. round-keeps path (in-demand path) (in-demand-kept path edges (sound .path-kept)) f i ∙ fills .demanding i (was i u);
-    plain-caps = λ i u c k. fills .plain-caps i (was i u) c (sym (round-keeps path (λ (t : Transfer). t .«rate_cap») (λ rate t. refl) f i) ∙ k);
+    plain-caps = λ i u c k. fills .plain-caps i (was i u) c (sym (round-keeps path (λ (t : Transfer). t .«rate_cap») (λ rate limit t. refl) f i) ∙ k);
     accounts = account-on sound fills choice;
     settled = settled-on;
   }

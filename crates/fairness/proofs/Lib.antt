@@ -4,6 +4,7 @@ pub mod Shares
 pub mod Loads
 pub mod Choice
 pub mod Rounds
+pub mod InRound
 pub mod Start
 pub mod Throughout
 pub mod Account

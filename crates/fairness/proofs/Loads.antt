@@ -17,8 +17,8 @@ use Rattle.rules.specs.declared.Share.{Share}
 use Rattle.rules.specs.declared.Verdict.{Verdict}
 use Rattle.rules.specs.declared.Verdict.the-variants.{ByCap, ByEdge}
 use Rattle.rules.specs.Lists.{crossings}
-use Rattle.rules.specs.Filling.{Filling, tightest, load, share, winning-edge, own-cap, smallest-cap, verdict, num-unfrozen}
-use Rattle.fairness.specs.Ready.{no-seat, seat-at, Ready}
+use Rattle.rules.specs.Filling.{Filling, tightest, load, share, winning-edge, own-cap, smallest-cap, verdict, num-unfrozen, no-seat, seat-at}
+use Rattle.fairness.specs.Ready.{Ready}
 use Rattle.rules.proofs.Counting.{some-of-count}
 use Rattle.rules.proofs.Sums.{sum-at, sum-some}
 use Rattle.rules.proofs.Crossings.{crosses-at}

@@ -3,7 +3,7 @@
 use mathlib.Core.Path.{_≡_, refl, sym, ap, _∙_}
 use mathlib.Core.Logic.{_⊎_, inl, inr}
 use mathlib.Core.Bool.{Bool, true, false, _&&_}
-use mathlib.Core.List.{List, [], _∷_, map}
+use mathlib.Core.List.{List, [], _∷_}
 use Prim.Native.Nat.{ℕ, _≤_, _<_}
 use native.Mathlib.Nat.{le-trans}
 use native.Mathlib.Omega.{arith}
@@ -16,16 +16,17 @@ use Rattle.doubles.proofs.Tests.{passed}
 use Rattle.doubles.proofs.Signs.{plain-nonneg, infinity-nonneg}
 use Rattle.rules.specs.declared.Cap.{Cap}
 use Rattle.rules.specs.declared.Cap.the-variants.{AtMost, Uncapped}
+use Rattle.rules.specs.declared.Limit.the-variants.{Nowhere}
 use Rattle.rules.specs.declared.Transfer.{Transfer}
 use Rattle.rules.specs.declared.Seat.{Seat}
 use Rattle.rules.specs.declared.Flows.{Flows}
 use Rattle.rules.specs.Lists.{count}
 use Rattle.rules.specs.Records.{max-slots, free, own-path, path-of}
-use Rattle.rules.specs.Filling.{takes-part, with-rate, lone-rate, entered, seat, recompute-rates}
-use Rattle.rules.specs.Fair.{in-demand}
+use Rattle.rules.specs.Filling.{takes-part, with-rate, lone-rate, entered, seat, recompute-rates, no-seat, seat-at}
+use Rattle.rules.specs.Fair.{in-demand, rated}
 use Rattle.rules.specs.Invariant.{SoundCap, at-most, uncapped, SoundTransfer, Invariant}
-use Rattle.fairness.specs.Ready.{no-seat, seat-at}
 use Rattle.rules.proofs.Counting.{count-most, count-all}
+use Rattle.fairness.proofs.Reading.{Steady}
 use Rattle.fairness.proofs.Start.{Enters, seat-enters, own-path-kept, takes-part-taken, own-path-length, sound-taken, paths-known}
 use Rattle.fairness.proofs.Sums.{in-demand-both, in-demand-kept}
 use Rattle.fairness.proofs.Begins.{enters-in-demand}
@@ -34,10 +35,6 @@ use Rattle.fairness.proofs.Filled.{Fillable, filled-length, filled-keep
 sound-cap : {cap : Cap} → SoundCap cap → (c : Float) → cap ≡ AtMost c → Plain c
 sound-cap (at-most {c = d} p) c e = let z : d ≡ c = cc in rw z at p
 sound-cap uncapped c e = let z : _≡_ {A = ℕ} 0 1 = cc in absurd (omega arith)
-
--- The transfers with the rates of a filling.
-abbrev pub rated : Flows → List Transfer
-rated f = map (λ (s : Seat). s .transfer) (recompute-rates (path-of f) (f .edges) (f .«in_flight») .seats)
 
 -- a rate as the invariant wants it
 pub record SoundRate (t : Transfer) : Type 0 where
@@ -48,21 +45,21 @@ plain-sound : {t : Transfer} → Plain (t .rate) → SoundRate t
 plain-sound p = record { rate = plain-nonneg p; rate-finite = inl p }
 
 -- the rate of who shares no edge
-lone-sound : (t : Transfer) → SoundCap (t .«rate_cap») → t .path .len ≡ 0 → SoundRate (with-rate (lone-rate (t .«rate_cap»)) t)
+lone-sound : (t : Transfer) → SoundCap (t .«rate_cap») → t .path .len ≡ 0 → SoundRate (with-rate (lone-rate (t .«rate_cap»)) Nowhere t)
 unfolding with-rate lone-rate
 lone-sound t sound none = go (t .«rate_cap») refl sound
   where
-    go : (cap : Cap) → t .«rate_cap» ≡ cap → SoundCap cap → SoundRate (with-rate (lone-rate cap) t)
+    go : (cap : Cap) → t .«rate_cap» ≡ cap → SoundCap cap → SoundRate (with-rate (lone-rate cap) Nowhere t)
     go (AtMost c) e (at-most p) = plain-sound p
     go Uncapped e uncapped = record { rate = infinity-nonneg binary64; rate-finite = inr (none, e) }
 
-taken-kept : (rate : Float) (t : Transfer) → with-rate rate t .taken ≡ t .taken
+taken-kept : Steady (λ (t : Transfer). t .taken)
 unfolding with-rate
-taken-kept rate t = refl
+taken-kept rate limit t = refl
 
-len-kept : (rate : Float) (t : Transfer) → with-rate rate t .path .len ≡ t .path .len
+len-kept : Steady (λ (t : Transfer). t .path .len)
 unfolding with-rate
-len-kept rate t = refl
+len-kept rate limit t = refl
 
 module _ (f : Flows) (inv : Invariant f) where
   abbrev slots : List Transfer
@@ -88,28 +85,28 @@ module _ (f : Flows) (inv : Invariant f) where
   rated-at : (i : ℕ) → getD (rated f) i free ≡ seat-at (recompute-rates (path-of f) (f .edges) (f .«in_flight»)) i .transfer
   rated-at i = List·getD-map (λ (s : Seat). s .transfer) (recompute-rates (path-of f) (f .edges) (f .«in_flight») .seats) i no-seat
 
-  -- a transfer keeps all but its rate
-  pub rated-keeps : {A : Type 0} (g : Transfer → A) → ((rate : Float) (t : Transfer) → g (with-rate rate t) ≡ g t) → (i : ℕ) → g (getD (rated f) i free) ≡ g (getD (f .«in_flight») i free)
+  -- a transfer keeps all but its rate and limit
+  pub rated-keeps : {A : Type 0} (g : Transfer → A) → Steady g → (i : ℕ) → g (getD (rated f) i free) ≡ g (getD (f .«in_flight») i free)
   rated-keeps g kept i = rw (rated-at i) (filled-keeps fillable g kept i)
 
-  -- and who takes no part keeps that too
-  pub rated-stays : (i : ℕ) → takes-part (getD (f .«in_flight») i free) ≡ false → getD (rated f) i free ≡ getD (f .«in_flight») i free
+  -- and who takes no part keeps its rate too
+  pub rated-stays : (i : ℕ) → takes-part (getD (f .«in_flight») i free) ≡ false → getD (rated f) i free ≡ with-rate (getD (f .«in_flight») i free .rate) Nowhere (getD (f .«in_flight») i free)
   unfolding seat
   rated-stays i idle =
-      let still : seat own-path (getD slots i free) ≡ record { transfer = getD slots i free; unfrozen = false } = rw idle refl in
+      let still : seat own-path (getD slots i free) ≡ record { transfer = with-rate (getD slots i free .rate) Nowhere (getD slots i free); unfrozen = false } = rw idle refl in
       rated-at i ∙ ap (λ (s : Seat). s .transfer) (filled-stays fillable i (rw still refl) ∙ still)
 
   -- ---- rates
 
   pub rates-plain : (i : ℕ) → getD (f .«in_flight») i free .taken ≡ true → SoundRate (getD (rated f) i free)
-  unfolding seat entered
+  unfolding seat entered with-rate
   rates-plain i taken = go (takes-part (getD slots i free)) refl (own-path (getD slots i free)) refl
     where
       go : (b : Bool) → takes-part (getD slots i free) ≡ b → (p : List ℕ) → own-path (getD slots i free) ≡ p → SoundRate (getD (rated f) i free)
       go false idle p q = let sound = sound-taken f inv i taken in rw (rated-stays i idle) (record { rate = sound .rate; rate-finite = sound .rate-finite })
       go true takes [] q =
           let sound = sound-taken f inv i taken in
-          let alone : seat own-path (getD slots i free) ≡ record { transfer = with-rate (lone-rate (getD slots i free .«rate_cap»)) (getD slots i free); unfrozen = false } = rw (takes, q) refl in
+          let alone : seat own-path (getD slots i free) ≡ record { transfer = with-rate (lone-rate (getD slots i free .«rate_cap»)) Nowhere (getD slots i free); unfrozen = false } = rw (takes, q) refl in
           let none : getD slots i free .path .len ≡ 0 = sym (own-path-length (f .«num_edges») (getD slots i free) (sound .path)) ∙ ap length q in
           rw (rated-at i, filled-stays fillable i (rw alone refl), alone) (lone-sound (getD slots i free) (sound .cap) none)
       go true takes (e ∷ p) q =

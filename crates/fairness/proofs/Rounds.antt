@@ -8,35 +8,36 @@ use lib.Dec.{eqb, eqb·suc-zero}
 use lib.ListN.{length}
 use lib.Ieee.{Float}
 use borrow.Author.Tests.{eqb-true, eqb-false, eq-eqb}
+use Rattle.rules.specs.declared.Limit.{Limit}
 use Rattle.rules.specs.declared.Transfer.{Transfer}
 use Rattle.rules.specs.declared.Seat.{Seat}
 use Rattle.rules.specs.declared.Verdict.{Verdict}
 use Rattle.rules.specs.declared.Verdict.the-variants.{ByCap, ByEdge}
-use Rattle.rules.specs.Filling.{Filling, with-rate, winning-edge, smallest-cap, verdict, rate-by, names, freezes, freeze, frozen-by, round, num-unfrozen, rounds-until}
+use Rattle.rules.specs.Filling.{Filling, with-rate, winning-edge, rate-by, limit-by, names, freezes, freeze, frozen-by, round, num-unfrozen, rounds-until, no-seat, seat-at, verdict-of}
 use Rattle.rules.proofs.Steps.{length-map-from}
-use Rattle.fairness.specs.Ready.{no-seat, seat-at, Ready}
-use Rattle.fairness.proofs.Reading.{KeepsPath}
+use Rattle.fairness.specs.Ready.{Ready}
+use Rattle.fairness.proofs.Reading.{Steady, KeepsPath}
 use Rattle.rules.proofs.Numbered.{getD-map-all}
 use Rattle.rules.proofs.Counting.{count-drops}
 use Rattle.rules.proofs.Crossings.{crosses-any}
 use Rattle.fairness.proofs.Loads.{unfrozen-inside, load-is-waited, some-load, Winning, winning-is, smallest-is, Decided, verdict-decided}
 
--- A seat frozen at a rate.
-abbrev pub frozen-at : Float → Seat → Seat
-frozen-at rate s = record { transfer = with-rate rate (s .transfer); unfrozen = false }
+-- A seat frozen by a verdict.
+abbrev pub frozen-at : Verdict → Seat → Seat
+frozen-at v s = record { transfer = with-rate (rate-by v) (limit-by v) (s .transfer); unfrozen = false }
 
 module _ (path : Transfer → List ℕ) where
   -- ---- what a verdict does to a seat
 
-  -- the verdict of a round
-  abbrev pub verdict-of : Filling → Verdict
-  verdict-of f = verdict (smallest-cap f) (winning-edge path f)
-
-  -- and the rate that it gives
+  -- the rate that a round gives
   abbrev pub rate-of : Filling → Float
-  rate-of f = rate-by (verdict-of f)
+  rate-of f = rate-by (verdict-of path f)
 
-  -- it freezes whom it names while unfrozen
+  -- and the limit that it leaves
+  abbrev pub limit-of : Filling → Limit
+  limit-of f = limit-by (verdict-of path f)
+
+  -- a verdict freezes whom it names while unfrozen
   pub freezes-both : (v : Verdict) (i : ℕ) (s : Seat) → freezes path v i s ≡ true → (s .unfrozen ≡ true) × (names v i (path (s .transfer)) ≡ true)
   unfolding freezes
   freezes-both v i s h = go (s .unfrozen) (names v i (path (s .transfer))) h
@@ -57,7 +58,7 @@ module _ (path : Transfer → List ℕ) where
   unfolding freeze freezes
   never-unfreezes v i s = go (s .unfrozen) refl (names v i (path (s .transfer)))
     where
-      go : (b : Bool) → s .unfrozen ≡ b → (c : Bool) → cond (b && c) (frozen-at (rate-by v) s) s .unfrozen ≡ true → b ≡ true
+      go : (b : Bool) → s .unfrozen ≡ b → (c : Bool) → cond (b && c) (frozen-at v s) s .unfrozen ≡ true → b ≡ true
       go true e c h = refl
       go false e c h = sym e ∙ h
 
@@ -66,23 +67,23 @@ module _ (path : Transfer → List ℕ) where
   unfolding freeze freezes
   frozen-stays v i s e = go (s .unfrozen) e
     where
-      go : (b : Bool) → b ≡ false → cond (b && names v i (path (s .transfer))) (frozen-at (rate-by v) s) s ≡ s
+      go : (b : Bool) → b ≡ false → cond (b && names v i (path (s .transfer))) (frozen-at v s) s ≡ s
       go true e = absurd (true≢false e)
       go false e = refl
 
-  pub freeze-keeps : {A : Type 0} (g : Transfer → A) → ((rate : Float) (t : Transfer) → g (with-rate rate t) ≡ g t) → (v : Verdict) (i : ℕ) (s : Seat) → g (freeze path v i s .transfer) ≡ g (s .transfer)
+  pub freeze-keeps : {A : Type 0} (g : Transfer → A) → Steady g → (v : Verdict) (i : ℕ) (s : Seat) → g (freeze path v i s .transfer) ≡ g (s .transfer)
   unfolding freeze
   freeze-keeps g kept v i s = go (freezes path v i s)
     where
-      go : (b : Bool) → g (cond b (frozen-at (rate-by v) s) s .transfer) ≡ g (s .transfer)
-      go true = kept (rate-by v) (s .transfer)
+      go : (b : Bool) → g (cond b (frozen-at v s) s .transfer) ≡ g (s .transfer)
+      go true = kept (rate-by v) (limit-by v) (s .transfer)
       go false = refl
 
   -- ---- what a round does to the filling
 
   pub round-seats : (f : Filling) → length (round path f .seats) ≡ length (f .seats)
   unfolding round frozen-by
-  round-seats f = length-map-from 0 (freeze path (verdict-of f)) (f .seats)
+  round-seats f = length-map-from 0 (freeze path (verdict-of path f)) (f .seats)
 
   pub round-edges : (f : Filling) → length (round path f .residual) ≡ length (f .residual)
   unfolding round frozen-by
@@ -93,15 +94,15 @@ module _ (path : Transfer → List ℕ) where
   round-counts f = omega arith
 
   -- every seat is put through the verdict, and the one that is read past the last stays
-  pub round-seat : (f : Filling) (i : ℕ) → seat-at (round path f) i ≡ freeze path (verdict-of f) i (seat-at f i)
+  pub round-seat : (f : Filling) (i : ℕ) → seat-at (round path f) i ≡ freeze path (verdict-of path f) i (seat-at f i)
   unfolding round frozen-by
   round-seat f i =
       let z : 0 + i ≡ i = omega arith in
-      getD-map-all 0 (freeze path (verdict-of f)) (f .seats) i no-seat (λ j. frozen-stays (verdict-of f) j no-seat refl) ∙ rw z refl
+      getD-map-all 0 (freeze path (verdict-of path f)) (f .seats) i no-seat (λ j. frozen-stays (verdict-of path f) j no-seat refl) ∙ rw z refl
 
-  -- a transfer keeps all but its rate
-  pub round-keeps : {A : Type 0} (g : Transfer → A) → ((rate : Float) (t : Transfer) → g (with-rate rate t) ≡ g t) → (f : Filling) (i : ℕ) → g (seat-at (round path f) i .transfer) ≡ g (seat-at f i .transfer)
-  round-keeps g kept f i = rw (round-seat f i) (freeze-keeps g kept (verdict-of f) i (seat-at f i))
+  -- a transfer keeps all but its rate and limit
+  pub round-keeps : {A : Type 0} (g : Transfer → A) → Steady g → (f : Filling) (i : ℕ) → g (seat-at (round path f) i .transfer) ≡ g (seat-at f i .transfer)
+  round-keeps g kept f i = rw (round-seat f i) (freeze-keeps g kept (verdict-of path f) i (seat-at f i))
 
   -- ---- each round freezes at least one
 
@@ -119,7 +120,7 @@ module _ (path : Transfer → List ℕ) where
   pub round-freezes : (f : Filling) → Ready path f → 0 < num-unfrozen f → num-unfrozen (round path f) < num-unfrozen f
   unfolding round frozen-by num-unfrozen
   round-freezes f ready some-left =
-      let v = verdict-of f in
+      let v = verdict-of path f in
       let hit = decided-hits f v (winning-is path f (some-load path f ready some-left)) (verdict-decided path f) in
       let z : 0 + hit .0 ≡ hit .0 = omega arith in
       count-drops (λ (s : Seat). s .unfrozen) (freeze path v) (never-unfreezes v) 0 (f .seats) (hit .0) no-seat (unfrozen-inside (f .seats) (hit .0) (hit .1)) (hit .1)

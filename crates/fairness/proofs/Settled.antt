@@ -12,22 +12,24 @@ use Rattle.doubles.specs.Doubles.{nought, Plain}
 use Rattle.doubles.specs.Exact.{exact, step}
 use Rattle.rules.specs.declared.Cap.{Cap}
 use Rattle.rules.specs.declared.Cap.the-variants.{AtMost}
+use Rattle.rules.specs.declared.Limit.{Limit}
+use Rattle.rules.specs.declared.Limit.the-variants.{AtEdge}
 use Rattle.rules.specs.declared.Edge.{Edge}
 use Rattle.rules.specs.declared.Transfer.{Transfer}
 use Rattle.rules.specs.declared.Seat.{Seat}
 use Rattle.rules.specs.Lists.{times, crossings}
 use Rattle.rules.specs.Records.{blank-edge}
-use Rattle.rules.specs.Filling.{Filling, crossings-frozen, spend, frozen-by, round, num-unfrozen}
+use Rattle.rules.specs.Filling.{Filling, crossings-frozen, spend, frozen-by, round, num-unfrozen, seat-at, verdict-of}
 use Rattle.rules.proofs.Steps.{getD-map-from}
-use Rattle.fairness.specs.Ready.{seat-at, Ready}
+use Rattle.fairness.specs.Ready.{Ready}
 use Rattle.fairness.proofs.Reading.{KeepsPath}
 use Rattle.fairness.proofs.Loads.{some-load, winning-is, verdict-decided}
 use Rattle.fairness.proofs.Choice.{left-of, load-of}
-use Rattle.fairness.proofs.Rounds.{verdict-of, rate-of}
+use Rattle.fairness.proofs.Rounds.{rate-of}
 use Rattle.fairness.proofs.Account.{AtMostShare, Paced, paced-round}
 use Rattle.fairness.proofs.Edge.{Account, at-most-share, account-steps, account-round}
 use Rattle.fairness.proofs.Sums.{given, gone, spent, Demanding, load-falls, gone-grows, spent-grows}
-use Rattle.fairness.proofs.Verdicts.{Chosen, chosen}
+use Rattle.fairness.proofs.Verdicts.{AtOwnCap, Chosen, chosen}
 
 -- ---- an edge
 
@@ -57,24 +59,25 @@ module _ (path : Transfer → List ℕ) (edges : List Edge) (K : ℕ → ℕ) (f
   Kept e = Account (capacity-of edges e) (K e) (spent-of path edges f e) (left-of path f e) (load-of path f e) (gone-of path edges f e)
 
   -- The edge whose round gave a rate: nothing waits on it, it carries its capacity but for K half steps, and nobody on it runs faster by more than K steps.
-  pub record Bottleneck (p : List ℕ) (rate : Float) : Type 0 where
+  pub record Bottleneck (p : List ℕ) (rate : Float) (limit : Limit) : Type 0 where
     pub edge : ℕ
+    pub named : limit ≡ AtEdge edge
     pub crossed : 0 < crossings edge p
     pub used-up : load-of path f edge ≡ 0
     pub full : 2 * exact (capacity-of edges edge) ≤ 2 * spent-of path edges f edge + K edge * step-of edges edge
     pub top : (j : ℕ) → given path edges (seat-at f j) ≡ true → 0 < crossings edge (path (seat-at f j .transfer)) → exact (seat-at f j .transfer .rate) ≤ exact rate + K edge * step-of edges edge
 
-  -- a rate that was given to a transfer with that cap and path
-  pub record Settled (cap : Cap) (p : List ℕ) (rate : Float) : Type 0 where
+  -- a rate and a limit that were given to a transfer with that cap and path
+  pub record Settled (cap : Cap) (p : List ℕ) (rate : Float) (limit : Limit) : Type 0 where
     pub plain : Plain rate
     pub under-cap : (c : Float) → cap ≡ AtMost c → exact rate ≤ exact c
     pub known : (e : ℕ) → 0 < crossings e p → e < length edges
     pub under-capacity : (e : ℕ) → 0 < crossings e p → exact rate ≤ exact (capacity-of edges e)
     pub paced : (e : ℕ) → 0 < crossings e p → PacedOn path edges f e (exact rate)
-    pub why : (cap ≡ AtMost rate) ⊎ Bottleneck p rate
+    pub why : AtOwnCap cap rate limit ⊎ Bottleneck p rate limit
 
   abbrev pub SettledSeat : Seat → Type 0
-  SettledSeat s = Settled (s .transfer .«rate_cap») (path (s .transfer)) (s .transfer .rate)
+  SettledSeat s = Settled (s .transfer .«rate_cap») (path (s .transfer)) (s .transfer .rate) (s .transfer .limit)
 
   pub record Fills : Type 0 where
     pub long : length (f .residual) ≡ length edges

@@ -7,17 +7,17 @@ use Prim.Native.Nat.{ℕ, _≤_, _<_}
 use native.Mathlib.Omega.{arith}
 use lib.ListN.{length, getD, length-map, List·getD-map}
 use lib.Seq.{getD-take, length-take-le}
-use lib.Ieee.{Float}
 use Rattle.doubles.specs.Doubles.{_≺_}
+use Rattle.rules.specs.declared.Limit.the-variants.{Nowhere}
 use Rattle.rules.specs.declared.Edge.{Edge}
 use Rattle.rules.specs.declared.Transfer.{Transfer}
 use Rattle.rules.specs.declared.Flows.{Flows}
 use Rattle.rules.specs.Tolerance.{B}
 use Rattle.rules.specs.Records.{free, own-path, path-of}
-use Rattle.rules.specs.Filling.{takes-part, Filling, with-rate, lone-rate, entered, seat, start, num-unfrozen, recompute-rates}
+use Rattle.rules.specs.Filling.{takes-part, Filling, with-rate, lone-rate, entered, seat, start, num-unfrozen, recompute-rates, seat-at}
 use Rattle.rules.specs.Invariant.{SoundRoute, SoundTransfer, Invariant}
-use Rattle.fairness.specs.Ready.{seat-at, Ready}
-use Rattle.fairness.proofs.Reading.{KeepsPath}
+use Rattle.fairness.specs.Ready.{Ready}
+use Rattle.fairness.proofs.Reading.{Steady, KeepsPath}
 use Rattle.fairness.proofs.Rounds.{rounds-bound, in-the-end}
 
 -- ---- seats at the start
@@ -33,23 +33,33 @@ module _ (path : Transfer → List ℕ) where
   unfolding seat entered
   seat-enters t h = go (takes-part t) refl (path t) refl h
     where
-      go : (b : Bool) → takes-part t ≡ b → (p : List ℕ) → path t ≡ p → cond b (entered p t) (record { transfer = t; unfrozen = false }) .unfrozen ≡ true → Enters t
+      go : (b : Bool) → takes-part t ≡ b → (p : List ℕ) → path t ≡ p → cond b (entered p t) (record { transfer = with-rate (t .rate) Nowhere t; unfrozen = false }) .unfrozen ≡ true → Enters t
       go false e p q h = absurd (true≢false (sym h))
       go true e [] q h = absurd (true≢false (sym h))
       go true e (x ∷ p) q h = record { takes = e; some = rw q (omega arith); same = rw (q, e) refl }
 
-  -- a transfer keeps all but its rate
-  pub seat-keeps : {A : Type 0} (g : Transfer → A) → ((rate : Float) (t : Transfer) → g (with-rate rate t) ≡ g t) → (t : Transfer) → g (seat path t .transfer) ≡ g t
+  -- a transfer keeps all but its rate and limit
+  pub seat-keeps : {A : Type 0} (g : Transfer → A) → Steady g → (t : Transfer) → g (seat path t .transfer) ≡ g t
   unfolding seat entered
   seat-keeps g kept t = go (takes-part t) (path t)
     where
-      go : (b : Bool) (p : List ℕ) → g (cond b (entered p t) (record { transfer = t; unfrozen = false }) .transfer) ≡ g t
-      go false p = refl
-      go true [] = kept (lone-rate (t .«rate_cap»)) t
+      go : (b : Bool) (p : List ℕ) → g (cond b (entered p t) (record { transfer = with-rate (t .rate) Nowhere t; unfrozen = false }) .transfer) ≡ g t
+      go false p = kept (t .rate) Nowhere t
+      go true [] = kept (lone-rate (t .«rate_cap»)) Nowhere t
       go true (e ∷ p) = refl
 
+  -- who starts frozen has no limit
+  pub seat-nowhere : (t : Transfer) → seat path t .unfrozen ≡ false → seat path t .transfer .limit ≡ Nowhere
+  unfolding seat entered with-rate
+  seat-nowhere t = go (takes-part t) (path t)
+    where
+      go : (b : Bool) (p : List ℕ) → let s = cond b (entered p t) (record { transfer = with-rate (t .rate) Nowhere t; unfrozen = false }) in s .unfrozen ≡ false → s .transfer .limit ≡ Nowhere
+      go false p h = refl
+      go true [] h = refl
+      go true (e ∷ p) h = absurd (true≢false h)
+
   pub start-seat : (edges : List Edge) (slots : List Transfer) (i : ℕ) → seat-at (start path edges slots) i ≡ seat path (getD slots i free)
-  unfolding start seat takes-part
+  unfolding start seat takes-part with-rate
   start-seat edges slots i = List·getD-map (seat path) slots i free
 
   pub start-edges : (edges : List Edge) (slots : List Transfer) → length (start path edges slots .residual) ≡ length edges
@@ -66,7 +76,7 @@ module _ (path : Transfer → List ℕ) where
 
 pub own-path-kept : KeepsPath own-path
 unfolding own-path with-rate
-own-path-kept rate t = refl
+own-path-kept rate limit t = refl
 
 pub takes-part-taken : (t : Transfer) → takes-part t ≡ true → t .taken ≡ true
 unfolding takes-part

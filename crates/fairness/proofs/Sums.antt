@@ -7,7 +7,6 @@ use native.Mathlib.Nat.{mul-le-mul-left}
 use native.Mathlib.Omega.{arith}
 use lib.Dec.{ltb}
 use lib.ListN.{length, getD}
-use lib.Ieee.{Float}
 use borrow.Author.Tests.{ltb-true}
 use Rattle.doubles.specs.Exact.{exact}
 use Rattle.rules.specs.declared.Edge.{Edge}
@@ -16,10 +15,9 @@ use Rattle.rules.specs.declared.Seat.{Seat}
 use Rattle.rules.specs.declared.Verdict.{Verdict}
 use Rattle.rules.specs.Lists.{sum, map-from, crossings}
 use Rattle.rules.specs.Clock.{crossings-by}
-use Rattle.rules.specs.Filling.{takes-part, with-rate, load, rate-by, freezes, freeze, crossings-frozen}
+use Rattle.rules.specs.Filling.{takes-part, with-rate, load, rate-by, limit-by, freezes, freeze, crossings-frozen, no-seat}
 use Rattle.rules.specs.Fair.{in-demand, k, carried}
-use Rattle.fairness.specs.Ready.{no-seat}
-use Rattle.fairness.proofs.Reading.{KeepsPath}
+use Rattle.fairness.proofs.Reading.{Steady, KeepsPath}
 use Rattle.fairness.proofs.Rounds.{frozen-at, freezes-both}
 
 -- ---- sums of numbered elements
@@ -53,7 +51,7 @@ module _ (path : Transfer → List ℕ) (v : Verdict) (e : ℕ) where
     where
       go : (b : Bool) → (b ≡ true → s .unfrozen ≡ true)
           → cond (s .unfrozen) (crossings e (path (s .transfer))) 0
-          ≡ cond (cond b (frozen-at (rate-by v) s) s .unfrozen) (crossings e (path (cond b (frozen-at (rate-by v) s) s .transfer))) 0 + cond b (crossings e (path (s .transfer))) 0
+          ≡ cond (cond b (frozen-at v s) s .unfrozen) (crossings e (path (cond b (frozen-at v s) s .transfer))) 0 + cond b (crossings e (path (s .transfer))) 0
       go true h = plain (s .unfrozen) (crossings e (path (s .transfer))) (h refl)
         where
           plain : (u : Bool) (W : ℕ) → u ≡ true → cond u W 0 ≡ 0 + W
@@ -137,9 +135,9 @@ module _ (path : Transfer → List ℕ) (edges : List Edge) where
 
   -- ---- through a round
 
-  pub in-demand-kept : KeepsPath path → (rate : Float) (t : Transfer) → in-demand path (with-rate rate t) ≡ in-demand path t
+  pub in-demand-kept : KeepsPath path → Steady (in-demand path)
   unfolding in-demand takes-part with-rate
-  in-demand-kept kept rate t = rw (kept rate t) refl
+  in-demand-kept kept rate limit t = rw (kept rate limit t) refl
 
   -- what a seat that is frozen now counts for, before and after
   newly : (u d d′ : Bool) (Z W W′ : ℕ) → u ≡ true → d ≡ true → d′ ≡ d → W′ ≡ W → cond d′ W′ 0 ≡ cond (not u && d) Z 0 + W
@@ -150,10 +148,10 @@ module _ (path : Transfer → List ℕ) (edges : List Edge) where
     unfolding freeze
     crossed-grows i s demand = go (freezes path v i s) (λ h. freezes-both path v i s h .0)
       where
-        go : (b : Bool) → (b ≡ true → s .unfrozen ≡ true) → crossed-by e (cond b (frozen-at (rate-by v) s) s) ≡ crossed-by e s + cond b (crossings e (path (s .transfer))) 0
+        go : (b : Bool) → (b ≡ true → s .unfrozen ≡ true) → crossed-by e (cond b (frozen-at v s) s) ≡ crossed-by e s + cond b (crossings e (path (s .transfer))) 0
         go true h =
-            newly (s .unfrozen) (in-demand path (s .transfer)) (in-demand path (with-rate (rate-by v) (s .transfer))) (crossings e (path (s .transfer))) (crossings e (path (s .transfer)))
-            (crossings e (path (with-rate (rate-by v) (s .transfer)))) (h refl) (demand (h refl)) (in-demand-kept kept (rate-by v) (s .transfer)) (ap (crossings e) (kept (rate-by v) (s .transfer)))
+            newly (s .unfrozen) (in-demand path (s .transfer)) (in-demand path (with-rate (rate-by v) (limit-by v) (s .transfer))) (crossings e (path (s .transfer))) (crossings e (path (s .transfer)))
+            (crossings e (path (with-rate (rate-by v) (limit-by v) (s .transfer)))) (h refl) (demand (h refl)) (in-demand-kept kept (rate-by v) (limit-by v) (s .transfer)) (ap (crossings e) (kept (rate-by v) (limit-by v) (s .transfer)))
         go false h = omega arith
 
     carried-grows : (i : ℕ) (s : Seat) → (s .unfrozen ≡ true → in-demand path (s .transfer) ≡ true) → carried-by e (freeze path v i s) ≡ carried-by e s + now path v e i s * exact (rate-by v)
@@ -161,11 +159,11 @@ module _ (path : Transfer → List ℕ) (edges : List Edge) where
     carried-grows i s demand = go (freezes path v i s) (λ h. freezes-both path v i s h .0)
       where
         go : (b : Bool) → (b ≡ true → s .unfrozen ≡ true)
-            → carried-by e (cond b (frozen-at (rate-by v) s) s) ≡ carried-by e s + cond b (crossings e (path (s .transfer))) 0 * exact (rate-by v)
+            → carried-by e (cond b (frozen-at v s) s) ≡ carried-by e s + cond b (crossings e (path (s .transfer))) 0 * exact (rate-by v)
         go true h =
-            newly (s .unfrozen) (in-demand path (s .transfer)) (in-demand path (with-rate (rate-by v) (s .transfer))) (crossings e (path (s .transfer)) * exact (s .transfer .rate))
-            (crossings e (path (s .transfer)) * exact (rate-by v)) (crossings e (path (with-rate (rate-by v) (s .transfer))) * exact (rate-by v)) (h refl) (demand (h refl))
-            (in-demand-kept kept (rate-by v) (s .transfer)) (ap (λ (p : List ℕ). crossings e p * exact (rate-by v)) (kept (rate-by v) (s .transfer)))
+            newly (s .unfrozen) (in-demand path (s .transfer)) (in-demand path (with-rate (rate-by v) (limit-by v) (s .transfer))) (crossings e (path (s .transfer)) * exact (s .transfer .rate))
+            (crossings e (path (s .transfer)) * exact (rate-by v)) (crossings e (path (with-rate (rate-by v) (limit-by v) (s .transfer))) * exact (rate-by v)) (h refl) (demand (h refl))
+            (in-demand-kept kept (rate-by v) (limit-by v) (s .transfer)) (ap (λ (p : List ℕ). crossings e p * exact (rate-by v)) (kept (rate-by v) (limit-by v) (s .transfer)))
         go false h = omega arith
 
     -- ---- all of them

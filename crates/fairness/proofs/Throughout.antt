@@ -10,12 +10,12 @@ use Rattle.rules.specs.declared.Transfer.{Transfer}
 use Rattle.rules.specs.declared.Seat.{Seat}
 use Rattle.rules.specs.declared.Flows.{Flows}
 use Rattle.rules.specs.Records.{own-path}
-use Rattle.rules.specs.Filling.{Filling, load, round, num-unfrozen, start, rounds-until}
+use Rattle.rules.specs.Filling.{Filling, load, round, num-unfrozen, start, rounds-until, no-seat, seat-at}
 use Rattle.rules.specs.Invariant.{Invariant}
 use Rattle.rules.specs.Promises.{load-on-path, LoadedThroughout}
 use Rattle.rules.proofs.Each.{all-each}
 use Rattle.rules.proofs.Crossings.{crossed-any}
-use Rattle.fairness.specs.Ready.{no-seat, seat-at, Ready}
+use Rattle.fairness.specs.Ready.{Ready}
 use Rattle.fairness.proofs.Reading.{KeepsPath}
 use Rattle.fairness.proofs.Loads.{unfrozen-has-load}
 use Rattle.fairness.proofs.Rounds.{round-ready}

@@ -13,22 +13,29 @@ use Rattle.doubles.specs.Doubles.{Plain}
 use Rattle.doubles.specs.Exact.{exact}
 use Rattle.doubles.proofs.Tests.{passed}
 use Rattle.doubles.proofs.Ordered.{lt→exact}
+use Rattle.rules.specs.declared.Cap.{Cap}
 use Rattle.rules.specs.declared.Cap.the-variants.{AtMost}
+use Rattle.rules.specs.declared.Limit.{Limit}
+use Rattle.rules.specs.declared.Limit.the-variants.{AtEdge, AtCap}
 use Rattle.rules.specs.declared.Transfer.{Transfer}
 use Rattle.rules.specs.declared.Verdict.{Verdict}
 use Rattle.rules.specs.declared.Verdict.the-variants.{ByCap, ByEdge}
 use Rattle.rules.specs.Lists.{crossings}
-use Rattle.rules.specs.Filling.{Filling, winning-edge, rate-by, names, freezes}
-use Rattle.fairness.specs.Ready.{seat-at}
+use Rattle.rules.specs.Filling.{Filling, winning-edge, rate-by, limit-by, names, freezes, seat-at}
 use Rattle.rules.proofs.Crossings.{crosses-any, any-crosses}
 use Rattle.fairness.proofs.Loads.{Winning, smallest-is, Decided}
 use Rattle.fairness.proofs.Rounds.{freezes-both}
 use Rattle.fairness.proofs.Choice.{left-of, load-of, share-of, winning-least, winning-plain, no-smaller-cap}
 
+-- a transfer with that cap has that rate and that limit by its cap
+abbrev pub AtOwnCap : Cap → Float → Limit → Type 0
+AtOwnCap cap rate limit = (limit ≡ AtCap) × (cap ≡ AtMost rate)
+
 module _ (path : Transfer → List ℕ) where
   -- edge e gives its share x to seat i and to all others of its load
   pub record SharesOut (f : Filling) (v : Verdict) (x : Float) (i : ℕ) : Type 0 where
     pub edge : ℕ
+    pub named : limit-by v ≡ AtEdge edge
     pub known : edge < length (f .residual)
     pub crossed : 0 < crossings edge (path (seat-at f i .transfer))
     pub is-share : x ≡ share-of path f edge
@@ -38,12 +45,12 @@ module _ (path : Transfer → List ℕ) where
     pub plain : Plain x
     pub least : (e : ℕ) → e < length (f .residual) → 0 < load-of path f e → exact x ≤ exact (share-of path f e)
     pub under-cap : (i : ℕ) → freezes path v i (seat-at f i) ≡ true → (c : Float) → seat-at f i .transfer .«rate_cap» ≡ AtMost c → exact x ≤ exact c
-    pub why : (i : ℕ) → freezes path v i (seat-at f i) ≡ true → (seat-at f i .transfer .«rate_cap» ≡ AtMost x) ⊎ SharesOut f v x i
+    pub why : (i : ℕ) → freezes path v i (seat-at f i) ≡ true → AtOwnCap (seat-at f i .transfer .«rate_cap») x (limit-by v) ⊎ SharesOut f v x i
 
   module _ (f : Filling) (plain-left : (e : ℕ) → e < length (f .residual) → Plain (left-of path f e)) (few : (e : ℕ) → e < length (f .residual) → load-of path f e ≤ 2 ^ 53)
       (plain-caps : (i : ℕ) → seat-at f i .unfrozen ≡ true → (c : Float) → seat-at f i .transfer .«rate_cap» ≡ AtMost c → Plain c) where
     pub chosen : (v : Verdict) → Winning path f (winning-edge path f) → Decided path f v → Chosen f v (rate-by v)
-    unfolding rate-by names freezes
+    unfolding rate-by limit-by names freezes
     chosen (ByCap i c) wins d =
         let smallest = smallest-is path f i c (d .0) in
         let p : Plain c = plain-caps i (smallest .waits) c (smallest .is-cap) in
@@ -52,7 +59,7 @@ module _ (path : Transfer → List ℕ) where
           plain = p;
           least = λ e known loaded. omega (arith, lt→exact p q (passed (d .1)), winning-least path f plain-left few e known loaded);
           under-cap = λ j h b k. own j b (eqb-true j i (freezes-both path (ByCap i c) j (seat-at f j) h .1)) k (smallest .is-cap);
-          why = λ j h. inl (rw (eqb-true j i (freezes-both path (ByCap i c) j (seat-at f j) h .1)) (smallest .is-cap));
+          why = λ j h. inl (refl, rw (eqb-true j i (freezes-both path (ByCap i c) j (seat-at f j) h .1)) (smallest .is-cap));
         }
       where
         own : (j : ℕ) (b : Float) → j ≡ i → seat-at f j .transfer .«rate_cap» ≡ AtMost b → seat-at f i .transfer .«rate_cap» ≡ AtMost c → exact c ≤ exact b
@@ -65,6 +72,7 @@ module _ (path : Transfer → List ℕ) where
           under-cap = λ j h b k. no-smaller-cap path f plain-caps x p (d .2) j (freezes-both path (ByEdge e x) j (seat-at f j) h .0) b k;
           why = λ j h. inr (record {
             edge = e;
+            named = refl;
             known = rw (d .0) (wins .known);
             crossed = any-crosses e (path (seat-at f j .transfer)) (freezes-both path (ByEdge e x) j (seat-at f j) h .1);
             is-share = rw (d .1, d .0) (wins .is-share);

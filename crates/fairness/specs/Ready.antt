@@ -1,21 +1,11 @@
 -- What a filling under way must keep so that every round finds somebody to freeze. Definitions only.
 use Prim.Native.Nat.{ℕ, _<_}
 use mathlib.Core.Path.{_≡_}
-use mathlib.Core.Bool.{true, false}
+use mathlib.Core.Bool.{true}
 use mathlib.Core.List.{List}
 use lib.ListN.{length, getD}
 use Rattle.rules.specs.declared.Transfer.{Transfer}
-use Rattle.rules.specs.declared.Seat.{Seat}
-use Rattle.rules.specs.Records.{free}
-use Rattle.rules.specs.Filling.{Filling}
-
--- What is read past the last seat.
-abbrev pub no-seat : Seat
-no-seat = record { transfer = free; unfrozen = false }
-
--- Seat number i.
-abbrev pub seat-at : Filling → ℕ → Seat
-seat-at f i = getD (f .seats) i no-seat
+use Rattle.rules.specs.Filling.{Filling, seat-at}
 
 -- A path that a round can find: not empty, and over edges below n.
 pub record Rides (n : ℕ) (path : List ℕ) : Type 0 where

@@ -3,19 +3,19 @@ use mathlib.Core.Path.{_≡_, refl, sym, ap, subst, _∙_}
 use mathlib.Core.Bool.{true, false}
 use Prim.Native.Nat.{ℕ, suc, _+_, _≤_, _<_}
 use native.Mathlib.Omega.{arith}
-use lib.Ieee.{Float}
 use lib.ListN.{length, getD}
 use Rattle.rules.specs.declared.Route.{Route}
 use Rattle.rules.specs.declared.Transfer.{Transfer}
 use Rattle.rules.specs.declared.Seat.{Seat}
 use Rattle.rules.specs.declared.Verdict.{Verdict}
 use Rattle.rules.specs.Records.{own-path}
-use Rattle.rules.specs.Filling.{Filling, with-rate, load, num-unfrozen, frozen-by, round, rounds-until}
+use Rattle.rules.specs.Filling.{Filling, with-rate, load, num-unfrozen, frozen-by, round, rounds-until, no-seat, seat-at, verdict-of}
 use Rattle.rules.specs.Invariant.{SoundRoute}
-use Rattle.fairness.specs.Ready.{no-seat, seat-at, Ready}
+use Rattle.fairness.specs.Ready.{Ready}
 use Rattle.fairness.proofs.Loads.{some-load}
+use Rattle.fairness.proofs.Reading.{Steady}
 use Rattle.fairness.proofs.Start.{own-path-kept}
-use Rattle.fairness.proofs.Rounds.{verdict-of, never-unfreezes, frozen-stays, round-seats, round-edges, round-seat, round-keeps, round-freezes, round-ready, one-round-on}
+use Rattle.fairness.proofs.Rounds.{never-unfreezes, frozen-stays, round-seats, round-edges, round-seat, round-keeps, round-freezes, round-ready, one-round-on}
 use Rattle.caps.specs.declared.CapOrder.{CapOrder}
 use Rattle.rounds.specs.declared.Scratch.{Scratch}
 use Rattle.rounds.specs.Standing.{filling, Loaded, Standing, Frozen, Coming}
@@ -73,16 +73,16 @@ module _ (start : Scratch) (o : CapOrder) (begun : Begun start) (ordered : Order
         seat-is : (i : ℕ) → getD (r .seats) i no-seat ≡ seat-at (round own-path (filling f)) i
         seat-is i = ap (λ (g : Filling). seat-at g i) is-round
 
-        keeps : {A : Type 0} (g : Transfer → A) → ((rate : Float) (t : Transfer) → g (with-rate rate t) ≡ g t) → (i : ℕ) → g (getD (r .seats) i no-seat .transfer) ≡ g (getD (f .seats) i no-seat .transfer)
+        keeps : {A : Type 0} (g : Transfer → A) → Steady g → (i : ℕ) → g (getD (r .seats) i no-seat .transfer) ≡ g (getD (f .seats) i no-seat .transfer)
         keeps g kept i = ap (λ (s : Seat). g (s .transfer)) (seat-is i) ∙ round-keeps own-path g kept (filling f) i
 
         keeps-path : (i : ℕ) → getD (r .seats) i no-seat .transfer .path ≡ getD (f .seats) i no-seat .transfer .path
         unfolding with-rate
-        keeps-path i = keeps (λ t. t .path) (λ rate t. refl) i
+        keeps-path i = keeps (λ t. t .path) (λ rate limit t. refl) i
 
         keeps-cap : (i : ℕ) → getD (r .seats) i no-seat .transfer .«rate_cap» ≡ getD (f .seats) i no-seat .transfer .«rate_cap»
         unfolding with-rate
-        keeps-cap i = keeps (λ t. t .«rate_cap») (λ rate t. refl) i
+        keeps-cap i = keeps (λ t. t .«rate_cap») (λ rate limit t. refl) i
 
         was-unfrozen : (i : ℕ) → getD (r .seats) i no-seat .unfrozen ≡ true → getD (f .seats) i no-seat .unfrozen ≡ true
         was-unfrozen i u = never-unfreezes own-path (verdict-of own-path (filling f)) i (seat-at (filling f) i) (ap (λ (s : Seat). s .unfrozen) (sym (seat-is i ∙ round-seat own-path (filling f) i)) ∙ u)

@@ -6,7 +6,8 @@ use lib.ListN.{getD}
 use Rattle.rules.specs.declared.Transfer.{Transfer}
 use Rattle.rules.specs.Records.{max-edges, max-slots, free, own-path}
 use Rattle.rules.specs.Invariant.{SoundRoute, SoundCap}
-use Rattle.fairness.specs.Ready.{no-seat, Ready}
+use Rattle.rules.specs.Filling.{no-seat}
+use Rattle.fairness.specs.Ready.{Ready}
 use Rattle.rounds.specs.declared.Scratch.{Scratch}
 use Rattle.rounds.specs.Standing.{filling, Standing}
 

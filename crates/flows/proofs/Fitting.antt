@@ -10,7 +10,7 @@ use borrow.Author.Tests.{ltb-false}
 use Rattle.doubles.specs.Doubles.{read-zero}
 use Rattle.rules.specs.declared.Owner.{Owner}
 use Rattle.rules.specs.declared.Answer.{Answer}
-use Rattle.rules.specs.declared.Answer.the-variants.{Done, Added, Listed, Nothing, Unknown, CannotFinish, Value, Due, Refused}
+use Rattle.rules.specs.declared.Answer.the-variants.{Done, Added, Listed, Nothing, Unknown, CannotFinish, Value, Due, Limited, Refused}
 use Rattle.rules.specs.declared.Flows.{Flows}
 use Rattle.rules.specs.declared.Call.{Call}
 use Rattle.rules.specs.declared.Call.the-variants as Call-variants
@@ -69,6 +69,7 @@ nothing-fits places Unknown = tt
 nothing-fits places CannotFinish = tt
 nothing-fits places (Value x) = tt
 nothing-fits places (Due d) = tt
+nothing-fits places (Limited l) = tt
 nothing-fits places (Refused n) = tt
 
 pub call-fits : (c : Call) (path : List ℕ) (f : Flows) (buffer : List ℕ) → FitsSaid (width-of c) (length buffer) (call c path f buffer .made .said)
@@ -86,6 +87,7 @@ call-fits Call-variants.Settle path f buffer = nothing-fits (length buffer) _
 call-fits (Call-variants.Remaining id) path f buffer = tt
 call-fits (Call-variants.MeanInFlight e until) path f buffer = nothing-fits (length buffer) _
 call-fits (Call-variants.Rate id) path f buffer = nothing-fits (length buffer) _
+call-fits (Call-variants.Bottleneck id) path f buffer = nothing-fits (length buffer) _
 call-fits (Call-variants.Edge e) path f buffer = tt
 call-fits (Call-variants.Contains id) path f buffer = tt
 call-fits Call-variants.Rounds path f buffer = tt

@@ -33,6 +33,7 @@ each-decided = record {
   submit = λ κs a z z' e e' p q. p .0 ∙ sym (q .0);
   next-completion-delay = λ κs a z z' e e' p q. p .0 ∙ sym (q .0);
   rate = λ κs a z z' e e' p q. p .0 ∙ sym (q .0);
+  bottleneck = λ κs a z z' e e' p q. p .0 ∙ sym (q .0);
   settle = λ κs a z z' e e' p q. p .0 ∙ sym (q .0);
   remaining = λ κs a z z' e e' p q. p ∙ sym q;
   estimate-new-capped = λ κs a z z' e e' p q. p ∙ sym q;

@@ -26,6 +26,8 @@ use Rattle.questions.proofs.next_completion_delay.Reads as next-completion-dela
 use Rattle.questions.proofs.next_completion_delay.Kinds as next-completion-delay-kinds
 use Rattle.questions.proofs.rate.Reads as rate
 use Rattle.questions.proofs.rate.Kinds as rate-kinds
+use Rattle.questions.proofs.bottleneck.Reads as bottleneck
+use Rattle.questions.proofs.bottleneck.Kinds as bottleneck-kinds
 use Rattle.time_left.proofs.settle.Reads as settle
 use Rattle.time_left.proofs.settle.Kinds as settle-kinds
 use Rattle.time_left.proofs.remaining.Reads as remaining
@@ -86,6 +88,7 @@ pub record EachDecided : Type 0 where
   pub submit : Decided 1 submit-kinds.ps submit-kinds.r submit.Post
   pub next-completion-delay : Decided 0 next-completion-delay-kinds.ps next-completion-delay-kinds.r next-completion-delay.Post
   pub rate : Decided 0 rate-kinds.ps rate-kinds.r rate.Post
+  pub bottleneck : Decided 0 bottleneck-kinds.ps bottleneck-kinds.r bottleneck.Post
   pub settle : Decided 0 settle-kinds.ps settle-kinds.r settle.Post
   pub remaining : Decided 0 remaining-kinds.ps remaining-kinds.r remaining.Post
   pub estimate-new-capped : Decided 1 estimate-new-capped-kinds.ps estimate-new-capped-kinds.r estimate-new-capped.Post

@@ -1,9 +1,9 @@
 -- How many numbers a call lists for each entry, and what fits a lent buffer. Definitions only.
 use Prim.Native.Nat.{ℕ, _*_, _≤_}
 use Rattle.rules.specs.declared.Answer.{Answer}
-use Rattle.rules.specs.declared.Answer.the-variants.{Done, Added, Listed, Nothing, Unknown, CannotFinish, Value, Due, Refused}
+use Rattle.rules.specs.declared.Answer.the-variants.{Done, Added, Listed, Nothing, Unknown, CannotFinish, Value, Due, Limited, Refused}
 use Rattle.rules.specs.declared.Call.{Call}
-use Rattle.rules.specs.declared.Call.the-variants.{Advance, Submit, Cancel, AddEdge, Widen, TakeCompleted, OwnersWithCompletions, NextCompletionDelay, EstimateNew, Settle, Remaining, MeanInFlight, Rate, Edge, Contains, Rounds}
+use Rattle.rules.specs.declared.Call.the-variants.{Advance, Submit, Cancel, AddEdge, Widen, TakeCompleted, OwnersWithCompletions, NextCompletionDelay, EstimateNew, Settle, Remaining, MeanInFlight, Rate, Bottleneck, Edge, Contains, Rounds}
 use Rattle.rules.specs.declared.Said.{Said}
 use Rattle.rules.specs.declared.Said.the-variants as Said-variants
 
@@ -22,6 +22,7 @@ width-of Settle = 0
 width-of (Remaining id) = 0
 width-of (MeanInFlight e until) = 0
 width-of (Rate id) = 0
+width-of (Bottleneck id) = 0
 width-of (Edge e) = 0
 width-of (Contains id) = 0
 width-of Rounds = 0
@@ -36,6 +37,7 @@ Fits width places Unknown = Unit {0}
 Fits width places CannotFinish = Unit {0}
 Fits width places (Value x) = Unit {0}
 Fits width places (Due d) = Unit {0}
+Fits width places (Limited l) = Unit {0}
 Fits width places (Refused n) = Unit {0}
 
 -- The same of whatever was said.

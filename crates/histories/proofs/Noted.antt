@@ -22,7 +22,7 @@ use Rattle.rules.specs.Edges.{edge-added, edge-widened, add-edge, widen}
 use Rattle.rules.specs.Submission.{submit-capped}
 use Rattle.rules.specs.Advance.{quiet, done-list, list-done, advance}
 use Rattle.rules.specs.Cancel.{cancelled, cancel}
-use Rattle.rules.specs.Questions.{next-completion-delay, rate}
+use Rattle.rules.specs.Questions.{next-completion-delay, rate, bottleneck}
 use Rattle.rules.specs.TimeLeft.{settle}
 use Rattle.rules.specs.Histories.{typed-cap, typed-call, call, Turn, typed, after}
 use Rattle.rules.specs.Invariant.{Invariant}
@@ -124,7 +124,7 @@ module _ {f : Flows} {l : Ledger} (inv : Invariant f) (agrees : Agrees f l) wher
 
 call-agrees : (c : Call) (path : List ℕ) (f : Flows) (buffer : List ℕ) (l : Ledger) → T (typed-call c) → Invariant f → Agrees f l
     → let left = call c path f buffer in Agrees (left .made .flows) (noted c (left .made .said) (left .buffer) l)
-unfolding call typed-call noted says-done says-listed next-completion-delay rate take-completed Heard
+unfolding call typed-call noted says-done says-listed next-completion-delay rate bottleneck take-completed Heard
 call-agrees (Call-variants.Advance time) path f buffer l t inv a = advance-agrees inv a time buffer t
 call-agrees (Call-variants.Submit s) path f buffer l t inv a =
     submit-agrees inv a (s .id) (s .owner) path (s .bytes) (s .latency) (s .cap) (s .time) (and-r (typed-cap (s .cap)) (fits binary64 (s .time)) (and-r (fits binary64 (s .latency)) (typed-cap (s .cap) && fits binary64 (s .time)) t))
@@ -139,6 +139,7 @@ call-agrees Call-variants.Settle path f buffer l t inv a = agrees-unheard (settl
 call-agrees (Call-variants.Remaining id) path f buffer l t inv a = a
 call-agrees (Call-variants.MeanInFlight e until) path f buffer l t inv a = a
 call-agrees (Call-variants.Rate id) path f buffer l t inv a = agrees-unheard (up-to-date inv) a
+call-agrees (Call-variants.Bottleneck id) path f buffer l t inv a = agrees-unheard (up-to-date inv) a
 call-agrees (Call-variants.Edge e) path f buffer l t inv a = a
 call-agrees (Call-variants.Contains id) path f buffer l t inv a = a
 call-agrees Call-variants.Rounds path f buffer l t inv a = a

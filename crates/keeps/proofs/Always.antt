@@ -7,7 +7,7 @@ use lib.Ieee.{binary64, fits}
 use lib.Ieee.Fits.{and-l, and-r}
 use Rattle.rules.specs.declared.Flows.{Flows}
 use Rattle.rules.specs.declared.Call.{Call}
-use Rattle.rules.specs.declared.Call.the-variants.{Advance, Submit, Cancel, AddEdge, Widen, TakeCompleted, OwnersWithCompletions, NextCompletionDelay, EstimateNew, Settle, Remaining, MeanInFlight, Rate, Edge, Contains, Rounds}
+use Rattle.rules.specs.declared.Call.the-variants.{Advance, Submit, Cancel, AddEdge, Widen, TakeCompleted, OwnersWithCompletions, NextCompletionDelay, EstimateNew, Settle, Remaining, MeanInFlight, Rate, Bottleneck, Edge, Contains, Rounds}
 use Rattle.rules.specs.Lists.{all}
 use Rattle.rules.specs.Floors.{with-floor}
 use Rattle.rules.specs.Histories.{typed-cap, typed-call, call, Turn, typed, after, run}
@@ -33,6 +33,7 @@ call-keeps Settle path f buffer t inv = Keeps.settle-keeps f inv
 call-keeps (Remaining id) path f buffer t inv = inv
 call-keeps (MeanInFlight e until) path f buffer t inv = inv
 call-keeps (Rate id) path f buffer t inv = Keeps.rate-keeps id f inv
+call-keeps (Bottleneck id) path f buffer t inv = Keeps.bottleneck-keeps id f inv
 call-keeps (Edge e) path f buffer t inv = inv
 call-keeps (Contains id) path f buffer t inv = inv
 call-keeps Rounds path f buffer t inv = inv

@@ -26,7 +26,7 @@ use Rattle.rules.specs.Submission
 use Rattle.rules.specs.Advance
 use Rattle.rules.specs.Cancel
 use Rattle.rules.specs.Queue.{taking, take-completed, ids-for, owners-with-completions}
-use Rattle.rules.specs.Questions.{next-completion-delay, rate}
+use Rattle.rules.specs.Questions.{next-completion-delay, rate, bottleneck}
 use Rattle.rules.specs.TimeLeft.{settle}
 use Rattle.rules.specs.Histories.{typed-cap}
 use Rattle.rules.specs.Invariant.{ClockTime, SoundEdge, Invariant}
@@ -164,3 +164,7 @@ settle-keeps f inv = ensure-rates-keeps (drained-to-clock-keeps inv)
 pub rate-keeps : (id : ℕ) (f : Flows) → Invariant f → Invariant (rate id f .flows)
 unfolding rate
 rate-keeps id f inv = ensure-rates-keeps inv
+
+pub bottleneck-keeps : (id : ℕ) (f : Flows) → Invariant f → Invariant (bottleneck id f .flows)
+unfolding bottleneck
+bottleneck-keeps id f inv = ensure-rates-keeps inv

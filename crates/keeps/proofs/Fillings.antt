@@ -12,10 +12,10 @@ use Rattle.rules.specs.Lists.{all}
 use Rattle.rules.specs.Clock.{edge-loads, drain-to}
 use Rattle.rules.specs.Histories.{Turn, typed, run-with-floor}
 use Rattle.rules.specs.Invariant.{Invariant}
-use Rattle.rules.specs.Promises.{WhereverFilled, AlwaysFair, AlwaysEnds, AlwaysLoaded, AlwaysMatched}
+use Rattle.rules.specs.Promises.{WhereverFilled, AlwaysFair, AlwaysExplained, AlwaysNobodySlower, AlwaysEnds, AlwaysLoaded, AlwaysMatched}
 use Rattle.fairness.proofs.Start.{filling-ends}
 use Rattle.fairness.proofs.Throughout.{loaded-throughout}
-use Rattle.fairness.proofs.Fair.{fair-filling}
+use Rattle.fairness.proofs.Fair.{fair-filling, explained-filling, nobody-slower}
 use Rattle.keeps.proofs.Arguments.{time-clock, time-no-earlier}
 use Rattle.keeps.proofs.Draining.{drain-to-keeps}
 use Rattle.keeps.proofs.Always.{always-sound}
@@ -30,6 +30,12 @@ always P holds floor turns held t =
 
 pub always-fair : AlwaysFair
 always-fair = always _ fair-filling
+
+pub always-explained : AlwaysExplained
+always-explained = always _ explained-filling
+
+pub always-nobody-slower : AlwaysNobodySlower
+always-nobody-slower = always _ (λ f inv. nobody-slower (explained-filling f inv .explained))
 
 pub always-ends : AlwaysEnds
 always-ends = always _ filling-ends

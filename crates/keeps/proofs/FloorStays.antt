@@ -24,7 +24,7 @@ use Rattle.rules.specs.Edges.{edge-added, add-edge, edge-widened, widen}
 use Rattle.rules.specs.Submission.{submitted-transfer, peak-taken, started, submitted, submit-capped}
 use Rattle.rules.specs.Advance.{completed-one, completed, done-list, quiet, list-done, advance}
 use Rattle.rules.specs.Cancel.{cancelled, cancel}
-use Rattle.rules.specs.Questions.{next-completion-delay, rate}
+use Rattle.rules.specs.Questions.{next-completion-delay, rate, bottleneck}
 use Rattle.rules.specs.TimeLeft.{settle}
 use Rattle.rules.specs.Histories.{call, after, run}
 use Rattle.rules.specs.Promises.{FloorStays}
@@ -118,7 +118,7 @@ by-take owner f buffer = go (ids-for owner f)
     go (id ∷ ids) = unfold taking in refuses-lent f _ buffer _ (unfold collected with-waiting in refl)
 
 by-call : (c : Call) (path : List ℕ) (f : Flows) (buffer : List ℕ) → Handed f (call c path f buffer .made .flows)
-unfolding call add-edge edge-added widen edge-widened submit-capped submitted submitted-transfer next-completion-delay settle rate made-stale with-edges with-clock
+unfolding call add-edge edge-added widen edge-widened submit-capped submitted submitted-transfer next-completion-delay settle rate bottleneck made-stale with-edges with-clock
 by-call (Call-variants.Advance time) path f buffer = by-advance time f buffer
 by-call (Call-variants.Submit s) path f buffer = refuses f _ _ (by-submission _ (s .bytes) f)
 by-call (Call-variants.Cancel id) path f buffer = by-cancel id f
@@ -132,6 +132,7 @@ by-call Call-variants.Settle path f buffer = up-to-date (drained-to-clock f) ∙
 by-call (Call-variants.Remaining id) path f buffer = refl
 by-call (Call-variants.MeanInFlight e until) path f buffer = refl
 by-call (Call-variants.Rate id) path f buffer = up-to-date f
+by-call (Call-variants.Bottleneck id) path f buffer = up-to-date f
 by-call (Call-variants.Edge e) path f buffer = refl
 by-call (Call-variants.Contains id) path f buffer = refl
 by-call Call-variants.Rounds path f buffer = refl

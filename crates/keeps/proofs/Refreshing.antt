@@ -8,14 +8,17 @@ use mathlib.Core.List.{map}
 use lib.ListN.{getD, length-map, List·getD-map}
 use lib.Seq.{ext-getD}
 use lib.Ieee.{Float}
+use Rattle.rules.specs.declared.Limit.{Limit}
+use Rattle.rules.specs.declared.Limit.the-variants.{Nowhere}
 use Rattle.rules.specs.declared.Transfer.{Transfer}
 use Rattle.rules.specs.declared.Flows.{Flows}
 use Rattle.rules.specs.Lists.{Each}
 use Rattle.rules.specs.Records.{free, path-of, with-in-flight, with-edge-load, with-clock}
 use Rattle.rules.specs.Filling.{takes-part, with-rate, recompute-rates}
 use Rattle.rules.specs.Clock.{edge-loads, with-rates, ensure-rates}
+use Rattle.rules.specs.Fair.{rated}
 use Rattle.rules.specs.Invariant.{SoundTransfer, SoundSlot, Invariant}
-use Rattle.fairness.proofs.Rates.{rated, SoundRate, rated-length, rated-keeps, rated-stays, rates-plain, few-rounds, rounds-in-slots}
+use Rattle.fairness.proofs.Rates.{SoundRate, rated-length, rated-keeps, rated-stays, rates-plain, few-rounds, rounds-in-slots}
 use Rattle.rules.proofs.Conds.{by-test}
 use Rattle.keeps.proofs.Waits.{next-sound}
 use Rattle.keeps.proofs.Parts.{parts, joined}
@@ -33,9 +36,9 @@ pub record Refreshed (f g : Flows) : Type 0 where
   pub waiting : g .«num_completed» ≡ f .«num_completed»
   pub totals : g .totals ≡ f .totals
 
-rate-sound : {f : Flows} {t : Transfer} (rate : Float) → SoundTransfer f t → SoundRate (with-rate rate t) → SoundTransfer f (with-rate rate t)
+rate-sound : {f : Flows} {t : Transfer} (rate : Float) (limit : Limit) → SoundTransfer f t → SoundRate (with-rate rate limit t) → SoundTransfer f (with-rate rate limit t)
 unfolding with-rate
-rate-sound rate s r = record {
+rate-sound rate limit s r = record {
   path = s .path;
   latency = s .latency;
   bytes = s .bytes;
@@ -57,27 +60,31 @@ module _ (f : Flows) (inv : Invariant f) where
   unfolding with-rate
   rated-alike = record {
     same = ext-getD (who free) (map who (rated f)) (map who (f .«in_flight»)) (length-map (rated f) who ∙ rated-length f inv ∙ sym (length-map (f .«in_flight») who)) (λ i l.
-        List·getD-map who (rated f) i free ∙ rated-keeps f inv who (λ rate t. refl) i ∙ sym (List·getD-map who (f .«in_flight») i free));
+        List·getD-map who (rated f) i free ∙ rated-keeps f inv who (λ rate limit t. refl) i ∙ sym (List·getD-map who (f .«in_flight») i free));
   }
 
-  -- the transfer with its new rate
-  rated-is : (i : ℕ) → after-at i ≡ with-rate (after-at i .rate) (before-at i)
+  -- the transfer with its new rate and limit
+  rated-is : (i : ℕ) → after-at i ≡ with-rate (after-at i .rate) (after-at i .limit) (before-at i)
   unfolding with-rate
-  rated-is i = rated-keeps f inv (with-rate (after-at i .rate)) (λ rate t. refl) i
+  rated-is i = rated-keeps f inv (with-rate (after-at i .rate) (after-at i .limit)) (λ rate limit t. refl) i
 
   free-rests : (t : Transfer) → t ≡ free → takes-part t ≡ false
   unfolding takes-part
   free-rests t e = rw e refl
 
+  free-again : (t : Transfer) → t ≡ free → with-rate (t .rate) Nowhere t ≡ free
+  unfolding with-rate
+  free-again t e = rw e refl
+
   rated-each : Each (SoundSlot f) free (rated f)
   rated-each i = record {
     held = λ e.
         let taken : before-at i .taken ≡ true = sym (same-taken rated-alike i) ∙ e in
-        let rate : SoundRate (with-rate (after-at i .rate) (before-at i)) = subst SoundRate (rated-is i) (rates-plain f inv i taken) in
-        subst (SoundTransfer f) (sym (rated-is i)) (rate-sound (after-at i .rate) (inv .slots i .held taken) rate);
+        let rate : SoundRate (with-rate (after-at i .rate) (after-at i .limit) (before-at i)) = subst SoundRate (rated-is i) (rates-plain f inv i taken) in
+        subst (SoundTransfer f) (sym (rated-is i)) (rate-sound (after-at i .rate) (after-at i .limit) (inv .slots i .held taken) rate);
     blank = λ e.
         let blank : before-at i ≡ free = inv .slots i .blank (sym (same-taken rated-alike i) ∙ e) in
-        rated-stays f inv i (free-rests (before-at i) blank) ∙ blank;
+        rated-stays f inv i (free-rests (before-at i) blank) ∙ free-again (before-at i) blank;
   }
 
   with-rates-keeps : Invariant (with-rates (recompute-rates (path-of f) (f .edges) (f .«in_flight»)) f)

@@ -76,6 +76,7 @@ zeros-are-one Call-variants.Settle path f buffer inv = refl
 zeros-are-one (Call-variants.Remaining id) path f buffer inv = refl
 zeros-are-one (Call-variants.MeanInFlight e until) path f buffer inv = simp as-read
 zeros-are-one (Call-variants.Rate id) path f buffer inv = refl
+zeros-are-one (Call-variants.Bottleneck id) path f buffer inv = refl
 zeros-are-one (Call-variants.Edge e) path f buffer inv = refl
 zeros-are-one (Call-variants.Contains id) path f buffer inv = refl
 zeros-are-one Call-variants.Rounds path f buffer inv = refl

@@ -1,4 +1,4 @@
-// Questions with some work to them. Two bring rates up to date and hand back the simulator that answered; two read an edge.
+// Questions with some work to them. Three bring rates up to date and hand back the simulator that answered; two read an edge.
 use rules::Answer;
 use rules::Delay;
 use rules::Edge;
@@ -9,7 +9,7 @@ use rules::Outcome;
 use rules::Transfer;
 ghost use mathlib.Core.Path.{_≡_};
 ghost use Rattle.rules.specs.Refusals.{no-such-edge};
-ghost use Rattle.rules.specs.Questions.{next-completion-delay, delay-until, rate, rate-in, mean-in-flight, mean-over, edge as the-edge};
+ghost use Rattle.rules.specs.Questions.{next-completion-delay, delay-until, rate, rate-in, bottleneck, limit-in, mean-in-flight, mean-over, edge as the-edge};
 ghost use Rattle.rules.specs.Invariant.{Invariant};
 
 // ---- answered under rates brought up to date
@@ -64,6 +64,33 @@ fn rate_in(in_flight: [Transfer; 256], id: u32) -> Answer
         return Answer::Value(t.rate);
     }
     Answer::Unknown
+}
+
+// Why a transfer gets no more.
+pub fn bottleneck(flows: Flows, id: u32) -> Outcome
+    requires { ⌜ Invariant flows ⌝ }
+    ensures exactly { λ r. ⌜ r ≡ bottleneck id flows ⌝ }
+    ensures sound { λ r. ⌜ Invariant (r .flows) ⌝ }
+{
+    let after = clock::ensure_rates(flows);
+    let slots = after.in_flight;
+    let answer = limit_in(slots, id);
+    Outcome {
+        answer: answer,
+        flows: after,
+    }
+}
+
+// The limit in the slot that holds the transfer, if one does.
+fn limit_in(in_flight: [Transfer; 256], id: u32) -> Answer
+    ensures { λ r. ⌜ r ≡ limit-in id in_flight ⌝ }
+{
+    let t = slots::of_id(in_flight, id);
+    let limit = t.limit;
+    if !t.taken {
+        return Answer::Unknown;
+    }
+    Answer::Limited(limit)
 }
 
 // ---- edges

@@ -14,10 +14,9 @@ use Rattle.rules.specs.declared.Seat.{Seat}
 use Rattle.rules.specs.declared.Verdict.{Verdict}
 use Rattle.rules.specs.Lists.{count, sum, map-from, crossings, at-each-crossing, times}
 use Rattle.rules.specs.Records.{own-path}
-use Rattle.rules.specs.Filling.{Filling, with-rate, load, rate-by, names, freezes, freeze, crossings-frozen, spend}
+use Rattle.rules.specs.Filling.{Filling, with-rate, load, rate-by, limit-by, names, freezes, freeze, crossings-frozen, spend, no-seat}
 use Rattle.rules.proofs.Steps.{count-one, map-from-one, length-map-from, getD-map-from, map-from-take}
 use Rattle.rules.specs.Invariant.{SoundRoute}
-use Rattle.fairness.specs.Ready.{no-seat}
 use Rattle.rules.proofs.Crossings.{crosses-some}
 use Rattle.paths.specs.Known.{Known}
 use Rattle.paths.proofs.PerEdge.{times-add, length-crossing, crossing-at}
@@ -50,9 +49,9 @@ module _ (v : Verdict) (i : ℕ) (s : Seat) where
       go true c h = refl
       go false c h = h
 
-  pub freeze-when : (b : Bool) → freezes own-path v i s ≡ b → freeze own-path v i s ≡ cond b (record { transfer = with-rate (rate-by v) (s .transfer); unfrozen = false }) s
+  pub freeze-when : (b : Bool) → freezes own-path v i s ≡ b → freeze own-path v i s ≡ cond b (record { transfer = with-rate (rate-by v) (limit-by v) (s .transfer); unfrozen = false }) s
   unfolding freeze
-  freeze-when b f = ap (λ (z : Bool). cond z (record { transfer = with-rate (rate-by v) (s .transfer); unfrozen = false }) s) f
+  freeze-when b f = ap (λ (z : Bool). cond z (record { transfer = with-rate (rate-by v) (limit-by v) (s .transfer); unfrozen = false }) s) f
 
   -- The crossings of edge e that the verdict takes off with this seat.
   abbrev pub gone : ℕ → ℕ

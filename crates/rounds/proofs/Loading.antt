@@ -11,11 +11,10 @@ use lib.ListN.{length, getD, drop, replicate, getD-replicate, drop-of-length-le}
 use Rattle.rules.specs.declared.Seat.{Seat}
 use Rattle.rules.specs.Lists.{sum, crossings, at-each-crossing}
 use Rattle.rules.specs.Records.{own-path}
-use Rattle.rules.specs.Filling.{load}
+use Rattle.rules.specs.Filling.{load, no-seat}
 use Rattle.rules.specs.Invariant.{SoundRoute}
 use Rattle.rules.proofs.Crossings.{crossings-length}
 use Rattle.rules.proofs.Steps.{sum-map-one, getD-any}
-use Rattle.fairness.specs.Ready.{no-seat}
 use Rattle.fairness.proofs.Start.{own-path-length}
 use Rattle.rounds.specs.Standing.{Loads}
 use Rattle.paths.specs.Known.{Roomy}

@@ -9,9 +9,8 @@ use Rattle.rules.specs.declared.Seat.{Seat}
 use Rattle.rules.specs.declared.Share.{Share}
 use Rattle.rules.specs.declared.Verdict.{Verdict}
 use Rattle.rules.specs.Records.{max-edges, max-slots, own-path}
-use Rattle.rules.specs.Filling.{Filling, shares, load, smallest-cap, num-unfrozen, frozen-by}
+use Rattle.rules.specs.Filling.{Filling, shares, load, smallest-cap, num-unfrozen, frozen-by, no-seat}
 use Rattle.rules.specs.Invariant.{SoundRoute}
-use Rattle.fairness.specs.Ready.{no-seat}
 use Rattle.paths.specs.Known.{Counted}
 use Rattle.caps.specs.declared.CapOrder.{CapOrder}
 use Rattle.caps.specs.Order.{first-cap}

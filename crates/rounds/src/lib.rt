@@ -1,6 +1,7 @@
 // One round of a filling: what it decides, and whom that freezes.
 use caps::CapOrder;
 use rules::Best;
+use rules::Limit;
 use rules::Seat;
 use rules::Share;
 use rules::Verdict;
@@ -13,7 +14,7 @@ ghost use Rattle.rules.specs.Lists.{at-each-crossing};
 ghost use Rattle.rules.specs.Records.{own-path};
 ghost use Rattle.rules.specs.Filling.{tighter-share, blank-share, smallest-share, freezes, spend, smallest-cap};
 ghost use Rattle.rules.specs.Filling.{winning-edge as the-winning-edge, share as the-share};
-ghost use Rattle.rules.specs.Filling.{verdict as the-verdict, rate-by as the-rate-by, names as the-names, freeze as the-freeze};
+ghost use Rattle.rules.specs.Filling.{verdict as the-verdict, rate-by as the-rate-by, limit-by as the-limit-by, names as the-names, freeze as the-freeze};
 ghost use Rattle.caps.specs.Order.{frozen-front};
 ghost use Rattle.caps.specs.Listed.{listed, Passed};
 ghost use Rattle.rounds.specs.Standing.{filling, Freezable, Standing, Coming, Frozen, Loaded, shares-by};
@@ -144,6 +145,16 @@ fn rate_by(v: Verdict) -> f64
     }
 }
 
+// What it leaves as the limit of those it freezes.
+fn limit_by(v: Verdict) -> Limit
+    ensures { λ r. ⌜ r ≡ the-limit-by v ⌝ }
+{
+    match v {
+        Verdict::ByCap(_, _) => Limit::AtCap,
+        Verdict::ByEdge(e, _) => Limit::AtEdge(e),
+    }
+}
+
 // Whether a verdict names the transfer in slot i on that path.
 fn names(v: Verdict, i: usize, path: &[usize]) -> bool
     ensures { λ r. ⌜ r ≡ the-names v i (now (path .entry)) ⌝ }
@@ -170,8 +181,7 @@ fn freeze(residual: &mut [f64], load: &mut [usize], v: Verdict, i: usize, s: Sea
             let rate = rate_by(v);
             paths::spend(residual, &hops[..len], rate);
             paths::lower(load, &hops[..len]);
-            let mut frozen = t;
-            frozen.rate = rate;
+            let frozen = transfers::with_rate(t, rate, limit_by(v));
             return Seat {
                 transfer: frozen,
                 unfrozen: false,

@@ -1,7 +1,7 @@
 -- The cases hold: the definitions, computed on the fresh simulator, give what each table says. Assumes nothing.
 use mathlib.Core.Path.{_≡_, refl}
 use mathlib.Core.Bool.{true}
-use Rattle.rules.specs.Cases.{CasesHold, holds, vault-door, collection, edge-limit, both-sides, crossing-by-crossing, lowest-first, stalled-read, watched-read, watched-latency, AtNoRate, floor-cases, floor-holds, holds-coarsely, listed-early, latency-is-none, done-but-unlisted}
+use Rattle.rules.specs.Cases.{CasesHold, holds, vault-door, collection, edge-limit, both-sides, crossing-by-crossing, lowest-first, stalled-read, watched-read, watched-latency, AtNoRate, floor-cases, floor-holds, holds-coarsely, listed-early, latency-is-none, done-but-unlisted, three-reads, told-at-equality, told-none}
 use Rattle.rules.specs.Lists.{all}
 use Rattle.rules.proofs.Everything.{everything}
 
@@ -65,3 +65,15 @@ latency-is-none-holds = refl
 pub done-but-unlisted-holds : holds-coarsely done-but-unlisted ≡ true
 unfolding everything
 done-but-unlisted-holds = refl
+
+pub three-reads-holds : holds three-reads ≡ true
+unfolding everything
+three-reads-holds = refl
+
+pub told-at-equality-holds : holds told-at-equality ≡ true
+unfolding everything
+told-at-equality-holds = refl
+
+pub told-none-holds : holds told-none ≡ true
+unfolding everything
+told-none-holds = refl

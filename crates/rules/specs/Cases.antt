@@ -13,13 +13,15 @@ use Rattle.rules.specs.declared.Cap.{Cap}
 use Rattle.rules.specs.declared.Cap.the-variants.{AtMost, Uncapped}
 use Rattle.rules.specs.declared.Delay.{Delay}
 use Rattle.rules.specs.declared.Delay.the-variants.{After, Never}
+use Rattle.rules.specs.declared.Limit.{Limit}
+use Rattle.rules.specs.declared.Limit.the-variants.{AtEdge, AtCap, Nowhere}
 use Rattle.rules.specs.declared.Answer.{Answer}
-use Rattle.rules.specs.declared.Answer.the-variants.{Done, Added, Listed, Unknown, CannotFinish, Value, Due, Refused}
+use Rattle.rules.specs.declared.Answer.the-variants.{Done, Added, Listed, Unknown, CannotFinish, Value, Due, Limited, Refused}
 use Rattle.rules.specs.declared.EdgeRead.the-variants.{Found}
 use Rattle.rules.specs.declared.Transfer.{Transfer}
 use Rattle.rules.specs.declared.Flows.{Flows}
 use Rattle.rules.specs.declared.Call.{Call}
-use Rattle.rules.specs.declared.Call.the-variants.{Advance, Submit, Cancel, AddEdge, Widen, TakeCompleted, NextCompletionDelay, EstimateNew, Settle, Remaining, Rate, Edge, Rounds}
+use Rattle.rules.specs.declared.Call.the-variants.{Advance, Submit, Cancel, AddEdge, Widen, TakeCompleted, NextCompletionDelay, EstimateNew, Settle, Remaining, Rate, Bottleneck, Edge, Rounds}
 use Rattle.rules.specs.declared.Said.{Said}
 use Rattle.rules.specs.declared.Said.the-variants as Said-variants
 use Rattle.rules.specs.Lists.{all}
@@ -100,6 +102,10 @@ estimating path bytes latency cap a = along path (EstimateNew (record { bytes = 
 -- A transfer has that rate.
 abbrev runs-at : ℕ → ℕ → Step
 runs-at id r = Rate id answers Value (whole r)
+
+-- That is why a transfer is no faster.
+abbrev limited-by : ℕ → Limit → Step
+limited-by id l = Bottleneck id answers Limited l
 
 -- The last filling took so many rounds.
 abbrev took-rounds : ℕ → Step
@@ -374,7 +380,7 @@ watched-latency =
 
 -- A transfer of id 1 in flight with those bytes left and no rate.
 abbrev without-rate : Float → Transfer
-without-rate bytes = record { taken = true; id = 1; owner = Handoff; path = route []; «latency_remaining» = nought; «bytes_remaining» = bytes; «rate_cap» = Uncapped; rate = nought; «last_update» = nought }
+without-rate bytes = record { taken = true; id = 1; owner = Handoff; path = route []; «latency_remaining» = nought; «bytes_remaining» = bytes; «rate_cap» = Uncapped; rate = nought; limit = Nowhere; «last_update» = nought }
 
 -- At no rate B bytes are done, and the next double above is stalled. No call leaves the first: bytes fall to B at some rate, and that rate is kept from then on. (02, P1)
 abbrev pub AtNoRate : Type 0
@@ -457,6 +463,67 @@ done-but-unlisted =
     ∷ lending 6 (Advance half-short) (Listed 0) (lent-buffer 6)
     ∷ delay-is (After (of-bits 0x3f40_624d_d2f1_aa00))
     ∷ lending 6 (Advance (nearest 1 100)) (Listed 1) (0 ∷ 0 ∷ 1 ∷ lent-buffer 3)
+    ∷ []
+
+-- ---- bottlenecks
+
+-- Three reads over a drive and a bus: the drive holds one up, its cap another, the bus the third; a wider drive lets the first run until the bus holds it up too. (02, P4)
+abbrev pub three-reads : List Step
+three-reads =
+    new-edge 0 40
+    ∷ new-edge 1 100
+    ∷ sent 1 (0 ∷ 1 ∷ []) 1000 0 Uncapped
+    ∷ sent 2 (0 ∷ 1 ∷ []) 1000 0 (AtMost (whole 10))
+    ∷ sent 3 (1 ∷ []) 1000 0 Uncapped
+    ∷ limited-by 1 (AtEdge 0)
+    ∷ limited-by 2 AtCap
+    ∷ limited-by 3 (AtEdge 1)
+    ∷ runs-at 1 30
+    ∷ runs-at 2 10
+    ∷ runs-at 3 60
+    ∷ Widen 0 (whole 60) answers Done
+    ∷ limited-by 1 (AtEdge 1)
+    ∷ limited-by 2 AtCap
+    ∷ runs-at 1 45
+    ∷ runs-at 3 45
+    ∷ Bottleneck 4 answers Unknown
+    ∷ []
+
+-- A cap equal to the share does not win, so it is the edge that all three are told of; of two equal shares the lower edge wins. (02, P4)
+abbrev pub told-at-equality : List Step
+told-at-equality =
+    new-edge 0 12
+    ∷ sent 1 (0 ∷ []) 100 0 (AtMost (whole 4))
+    ∷ sent 2 (0 ∷ []) 100 0 Uncapped
+    ∷ sent 3 (0 ∷ []) 100 0 Uncapped
+    ∷ limited-by 1 (AtEdge 0)
+    ∷ limited-by 2 (AtEdge 0)
+    ∷ limited-by 3 (AtEdge 0)
+    ∷ new-edge 1 9
+    ∷ new-edge 2 9
+    ∷ sent 4 (2 ∷ 1 ∷ []) 100 0 Uncapped
+    ∷ limited-by 4 (AtEdge 1)
+    ∷ []
+
+-- Whose bytes fall to B after the filling keeps its limit; the next filling leaves it none, at the rate it had. A path without edges has none, even at its cap. (02, P4)
+abbrev pub told-none : List Step
+told-none =
+    let almost-ten = nearest 999999999 100000000 in
+    new-edge 0 10
+    ∷ sent 1 (0 ∷ []) 100 0 Uncapped
+    ∷ delay-is (After (whole 10))
+    ∷ lending 6 (Advance almost-ten) (Listed 0) (lent-buffer 6)
+    ∷ Settle answers Done
+    ∷ current 1 (Value nought)
+    ∷ limited-by 1 (AtEdge 0)
+    ∷ submitting 2 (Worker 0) (0 ∷ []) 100 nought Uncapped almost-ten Done
+    ∷ submitting 3 (Worker 0) [] 100 nought (AtMost (whole 5)) almost-ten Done
+    ∷ limited-by 1 Nowhere
+    ∷ runs-at 1 10
+    ∷ limited-by 2 (AtEdge 0)
+    ∷ runs-at 2 10
+    ∷ limited-by 3 Nowhere
+    ∷ runs-at 3 5
     ∷ []
 
 -- ---- the last number of a kind

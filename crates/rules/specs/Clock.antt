@@ -87,6 +87,7 @@ drained T t =
       «bytes_remaining» = cond (moves T t) (t .«bytes_remaining» ⊖ bytes-flowing T t) (t .«bytes_remaining»);
       «rate_cap» = t .«rate_cap»;
       rate = t .rate;
+      limit = t .limit;
       «last_update» = T;
     })
     t

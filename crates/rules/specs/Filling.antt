@@ -9,6 +9,8 @@ use lib.Ieee.{Float}
 use Rattle.doubles.specs.Doubles.{_⊖_, _⊘_, _≺_, nought, infinity, larger, whole}
 use Rattle.rules.specs.declared.Cap.{Cap}
 use Rattle.rules.specs.declared.Cap.the-variants.{AtMost, Uncapped}
+use Rattle.rules.specs.declared.Limit.{Limit}
+use Rattle.rules.specs.declared.Limit.the-variants.{AtEdge, AtCap, Nowhere}
 use Rattle.rules.specs.declared.Edge.{Edge}
 use Rattle.rules.specs.declared.Transfer.{Transfer}
 use Rattle.rules.specs.declared.Seat.{Seat}
@@ -19,6 +21,7 @@ use Rattle.rules.specs.declared.Verdict.{Verdict}
 use Rattle.rules.specs.declared.Verdict.the-variants.{ByCap, ByEdge}
 use Rattle.rules.specs.Tolerance.{B}
 use Rattle.rules.specs.Lists.{count, any, times, map-from, sum, crossings}
+use Rattle.rules.specs.Records.{free}
 
 -- A filling under way: the slots, what is left of each edge's capacity, and the rounds so far. (01, Filling)
 pub record Filling : Type 0 where
@@ -32,9 +35,9 @@ pub record Filling : Type 0 where
 unfoldable pub takes-part : Transfer → Bool
 takes-part t = t .taken && B ≺ t .«bytes_remaining»
 
--- A transfer at another rate. (01, Filling)
-unfoldable pub with-rate : Float → Transfer → Transfer
-with-rate rate t = record { taken = t .taken; id = t .id; owner = t .owner; path = t .path; «latency_remaining» = t .«latency_remaining»; «bytes_remaining» = t .«bytes_remaining»; «rate_cap» = t .«rate_cap»; rate = rate; «last_update» = t .«last_update» }
+-- A transfer at another rate, with the reason why it is no higher. (01, Filling; 02, P4)
+unfoldable pub with-rate : Float → Limit → Transfer → Transfer
+with-rate rate limit t = record { taken = t .taken; id = t .id; owner = t .owner; path = t .path; «latency_remaining» = t .«latency_remaining»; «bytes_remaining» = t .«bytes_remaining»; «rate_cap» = t .«rate_cap»; rate = rate; limit = limit; «last_update» = t .«last_update» }
 
 -- The rate of a transfer that shares no edge: its cap, or no limit at all. (01, Filling)
 unfoldable pub lone-rate : Cap → Float
@@ -43,7 +46,7 @@ lone-rate Uncapped = infinity
 
 -- A transfer that takes part starts unfrozen, unless its path is empty and its rate is known at once. (01, Filling)
 unfoldable pub entered : List ℕ → Transfer → Seat
-entered [] t = record { transfer = with-rate (lone-rate (t .«rate_cap»)) t; unfrozen = false }
+entered [] t = record { transfer = with-rate (lone-rate (t .«rate_cap»)) Nowhere t; unfrozen = false }
 entered (e ∷ path) t = record { transfer = t; unfrozen = true }
 
 -- ---- the winning edge
@@ -105,6 +108,11 @@ unfoldable pub rate-by : Verdict → Float
 rate-by (ByCap i c) = c
 rate-by (ByEdge e x) = x
 
+-- What a verdict leaves as the limit of those it freezes: their cap, or the edge. (02, P4)
+unfoldable pub limit-by : Verdict → Limit
+limit-by (ByCap i c) = AtCap
+limit-by (ByEdge e x) = AtEdge e
+
 -- Whether a verdict names the transfer in slot i on that path: the slot itself, or all that cross the edge. (01, Filling)
 unfoldable pub names : Verdict → ℕ → List ℕ → Bool
 names (ByCap j c) i p = eqb i j
@@ -120,11 +128,19 @@ spend rate residual = larger (residual ⊖ rate) nought
 unfoldable pub num-unfrozen : Filling → ℕ
 num-unfrozen f = count (λ s. s .unfrozen) (f .seats)
 
+-- What is read past the last seat.
+abbrev pub no-seat : Seat
+no-seat = record { transfer = free; unfrozen = false }
+
+-- Seat number i.
+abbrev pub seat-at : Filling → ℕ → Seat
+seat-at f i = getD (f .seats) i no-seat
+
 -- What follows takes the way to read a transfer's path.
 module _ (path : Transfer → List ℕ) where
-  -- A slot as the filling begins: who takes no part keeps the rate it had. (01, Filling)
+  -- A slot as the filling begins: who takes no part keeps the rate it had, and has no limit. (01, Filling; 02, P4)
   unfoldable pub seat : Transfer → Seat
-  seat t = cond (takes-part t) (entered (path t) t) (record { transfer = t; unfrozen = false })
+  seat t = cond (takes-part t) (entered (path t) t) (record { transfer = with-rate (t .rate) Nowhere t; unfrozen = false })
 
   -- The filling as it begins: all of each capacity is left. (01, Filling)
   unfoldable pub start : List Edge → List Transfer → Filling
@@ -140,13 +156,17 @@ module _ (path : Transfer → List ℕ) where
   unfoldable pub winning-edge : Filling → Share
   winning-edge f = smallest-share (shares (load (f .seats)) 0 (f .residual))
 
+  -- What a round decides, by the smallest cap and the smallest share. (01, Filling)
+  abbrev pub verdict-of : Filling → Verdict
+  verdict-of f = verdict (smallest-cap f) (winning-edge f)
+
   -- Whether a verdict freezes the seat in slot i. (01, Filling)
   unfoldable pub freezes : Verdict → ℕ → Seat → Bool
   freezes v i s = s .unfrozen && names v i (path (s .transfer))
 
-  -- A seat after the verdict: frozen at its rate, or as it was. (01, Filling)
+  -- A seat after the verdict: frozen at its rate with its limit, or as it was. (01, Filling; 02, P4)
   unfoldable pub freeze : Verdict → ℕ → Seat → Seat
-  freeze v i s = cond (freezes v i s) (record { transfer = with-rate (rate-by v) (s .transfer); unfrozen = false }) s
+  freeze v i s = cond (freezes v i s) (record { transfer = with-rate (rate-by v) (limit-by v) (s .transfer); unfrozen = false }) s
 
   -- The crossings of edge e by those that the verdict freezes. (01, Filling)
   unfoldable pub crossings-frozen : Verdict → List Seat → ℕ → ℕ
@@ -160,9 +180,9 @@ module _ (path : Transfer → List ℕ) where
     rounds = suc (f .rounds);
   }
 
-  -- One round: what the smallest cap and the smallest share decide, carried out. (01, Filling)
+  -- One round: what it decides, carried out. (01, Filling)
   unfoldable pub round : Filling → Filling
-  round f = frozen-by (verdict (smallest-cap f) (winning-edge f)) f
+  round f = frozen-by (verdict-of f) f
 
   -- ---- the rounds
 

@@ -9,7 +9,7 @@ use Rattle.rules.specs.declared.Cap.the-variants.{AtMost, Uncapped}
 use Rattle.rules.specs.declared.Outcome.{Outcome}
 use Rattle.rules.specs.declared.Flows.{Flows}
 use Rattle.rules.specs.declared.Call.{Call}
-use Rattle.rules.specs.declared.Call.the-variants.{Advance, Submit, Cancel, AddEdge, Widen, TakeCompleted, OwnersWithCompletions, NextCompletionDelay, EstimateNew, Settle, Remaining, MeanInFlight, Rate, Edge, Contains, Rounds}
+use Rattle.rules.specs.declared.Call.the-variants.{Advance, Submit, Cancel, AddEdge, Widen, TakeCompleted, OwnersWithCompletions, NextCompletionDelay, EstimateNew, Settle, Remaining, MeanInFlight, Rate, Bottleneck, Edge, Contains, Rounds}
 use Rattle.rules.specs.declared.Said.{Said}
 use Rattle.rules.specs.declared.Said.the-variants as Said-variants
 use Rattle.rules.specs.declared.Made.{Made}
@@ -21,7 +21,7 @@ use Rattle.rules.specs.Edges.{add-edge, widen}
 use Rattle.rules.specs.Submission.{submit-capped}
 use Rattle.rules.specs.Advance.{advance}
 use Rattle.rules.specs.Cancel.{cancel}
-use Rattle.rules.specs.Questions.{next-completion-delay, estimate-new-capped, mean-in-flight, rate, edge}
+use Rattle.rules.specs.Questions.{next-completion-delay, estimate-new-capped, mean-in-flight, rate, bottleneck, edge}
 use Rattle.rules.specs.TimeLeft.{settle, remaining}
 
 -- ---- what a call leaves
@@ -64,6 +64,7 @@ call Settle path f buffer = unlent (changing (settle f)) buffer
 call (Remaining id) path f buffer = unlent (asking f (Said-variants.TimeLeft (remaining id f))) buffer
 call (MeanInFlight e until) path f buffer = unlent (asking f (Said-variants.Answered (mean-in-flight e until f))) buffer
 call (Rate id) path f buffer = unlent (changing (rate id f)) buffer
+call (Bottleneck id) path f buffer = unlent (changing (bottleneck id f)) buffer
 call (Edge e) path f buffer = unlent (asking f (Said-variants.Edge (edge e f))) buffer
 call (Contains id) path f buffer = unlent (asking f (Said-variants.Truth (contains id f))) buffer
 call Rounds path f buffer = unlent (asking f (Said-variants.Number (f .clock .rounds))) buffer
@@ -90,6 +91,7 @@ typed-call Settle = true
 typed-call (Remaining id) = true
 typed-call (MeanInFlight e until) = fits binary64 until
 typed-call (Rate id) = true
+typed-call (Bottleneck id) = true
 typed-call (Edge e) = true
 typed-call (Contains id) = true
 typed-call Rounds = true
@@ -109,6 +111,7 @@ zeros-read Settle = Settle
 zeros-read (Remaining id) = Remaining id
 zeros-read (MeanInFlight e until) = MeanInFlight e (read-zero until)
 zeros-read (Rate id) = Rate id
+zeros-read (Bottleneck id) = Bottleneck id
 zeros-read (Edge e) = Edge e
 zeros-read (Contains id) = Contains id
 zeros-read Rounds = Rounds

@@ -34,7 +34,7 @@ use Rattle.rules.specs.Questions.{estimate-causes, edge-causes, mean-cau
 use Rattle.rules.specs.TimeLeft.{settle, remaining-in, behind, remaining}
 use Rattle.rules.specs.Histories.{call, zeros-read, Turn, typed, after, run, run-with-floor, journal}
 use Rattle.rules.specs.Invariant.{Invariant}
-use Rattle.rules.specs.Fair.{FairFilling}
+use Rattle.rules.specs.Fair.{FairFilling, ExplainedFilling, NobodySlowerFilling}
 use Rattle.rules.specs.Tallies.{Tallied}
 use Rattle.rules.specs.Unmoved.{says-no, touch, unmoved, only-reads}
 
@@ -57,6 +57,14 @@ pub record WhereverFilled (P : Flows → Type 0) (f : Flows) : Type 0 where
 -- Demand 3, whenever rates are worked out.
 abbrev pub AlwaysFair : Type 0
 AlwaysFair = (floor : Float) (turns : List Turn) → T (fits binary64 floor) → T (all typed turns) → WhereverFilled FairFilling (run-with-floor floor turns)
+
+-- Why nobody is faster, whenever rates are worked out: each limit is so, and is that of the round. (02, P4)
+abbrev pub AlwaysExplained : Type 0
+AlwaysExplained = (floor : Float) (turns : List Turn) → T (fits binary64 floor) → T (all typed turns) → WhereverFilled ExplainedFilling (run-with-floor floor turns)
+
+-- And so, in the request's own words: nobody is slower than its cap or a real bottleneck explains. (02, P4)
+abbrev pub AlwaysNobodySlower : Type 0
+AlwaysNobodySlower = (floor : Float) (turns : List Turn) → T (fits binary64 floor) → T (all typed turns) → WhereverFilled NobodySlowerFilling (run-with-floor floor turns)
 
 -- The filling of a simulator's transfers has ended with nobody unfrozen, and not because its rounds ran out. (01, Filling)
 abbrev pub AllFrozen : Flows → Type 0
@@ -87,6 +95,10 @@ AlwaysMatched = (floor : Float) (turns : List Turn) → T (fits binary64 floor) 
 -- Demand 3 holds of its filling.
 abbrev pub SoundFair : Type 0
 SoundFair = (f : Flows) → Invariant f → FairFilling f
+
+-- Its limits are so. (02, P4)
+abbrev pub SoundExplained : Type 0
+SoundExplained = (f : Flows) → Invariant f → ExplainedFilling f
 
 -- Each call with its zeros read is the same call. (01, Numbers)
 abbrev pub ZerosAreOne : Type 0

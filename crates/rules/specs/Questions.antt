@@ -16,7 +16,7 @@ use Rattle.rules.specs.declared.EdgeRead.{EdgeRead}
 use Rattle.rules.specs.declared.EdgeRead.the-variants as EdgeRead-variants
 use Rattle.rules.specs.declared.Transfer.{Transfer}
 use Rattle.rules.specs.declared.Answer.{Answer}
-use Rattle.rules.specs.declared.Answer.the-variants.{Unknown, Value, Due, Refused}
+use Rattle.rules.specs.declared.Answer.the-variants.{Unknown, Value, Due, Limited, Refused}
 use Rattle.rules.specs.declared.Outcome.{Outcome}
 use Rattle.rules.specs.declared.Flows.{Flows}
 use Rattle.rules.specs.Lists.{any}
@@ -119,3 +119,11 @@ rate-in id slots = of-id id Unknown (λ t. Value (t .rate)) slots
 -- A transfer's rate, brought up to date. (01, Questions)
 unfoldable pub rate : ℕ → Flows → Outcome
 rate id f = let g = ensure-rates f in answering (rate-in id (g .«in_flight»)) g
+
+-- Why the transfer with that id is no faster, as the last filling left it, or that there is none. (02, P4)
+unfoldable pub limit-in : ℕ → List Transfer → Answer
+limit-in id slots = of-id id Unknown (λ t. Limited (t .limit)) slots
+
+-- A transfer's bottleneck, rates being brought up to date as for its rate. (02, P4)
+unfoldable pub bottleneck : ℕ → Flows → Outcome
+bottleneck id f = let g = ensure-rates f in answering (limit-in id (g .«in_flight»)) g

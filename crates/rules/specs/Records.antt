@@ -18,6 +18,7 @@ use Rattle.doubles.specs.Doubles.{nought}
 use Rattle.rules.specs.declared.Owner.{Owner}
 use Rattle.rules.specs.declared.Owner.the-variants.{Worker, Handoff, Write}
 use Rattle.rules.specs.declared.Cap.the-variants.{Uncapped}
+use Rattle.rules.specs.declared.Limit.the-variants.{Nowhere}
 use Rattle.rules.specs.declared.NextDone.the-variants.{Nobody}
 use Rattle.rules.specs.declared.Edge.{Edge}
 use Rattle.rules.specs.declared.Route.{Route}
@@ -67,6 +68,7 @@ free = record {
   «bytes_remaining» = nought;
   «rate_cap» = Uncapped;
   rate = nought;
+  limit = Nowhere;
   «last_update» = nought;
 }
 

@@ -8,6 +8,7 @@ use Rattle.doubles.specs.Doubles.{_⊕_, _≺_, nought, larger, whole, read-zer
 use Rattle.rules.specs.declared.Owner.{Owner}
 use Rattle.rules.specs.declared.Cap.{Cap}
 use Rattle.rules.specs.declared.Cap.the-variants.{Uncapped}
+use Rattle.rules.specs.declared.Limit.the-variants.{Nowhere}
 use Rattle.rules.specs.declared.Transfer.{Transfer}
 use Rattle.rules.specs.declared.Tally.{Tally}
 use Rattle.rules.specs.declared.Answer.the-variants.{Done}
@@ -36,7 +37,7 @@ submit-causes id owner path bytes latency cap T f =
     ∷ 5 when ltb (2 ^ 53) bytes
     ∷ table-causes id owner f
 
--- A submitted transfer: a latency below zero is none, its rate is 0 until a filling, and it has been drained up to its own time. (01, Clock)
+-- A submitted transfer: a latency below zero is none, its rate is 0 and nothing limits it until a filling, and it has been drained up to its own time. (01, Clock; 02, P4)
 unfoldable pub submitted-transfer : ℕ → Owner → List ℕ → ℕ → Float → Cap → Float → Transfer
 submitted-transfer id owner path bytes latency cap T = record {
   taken = true;
@@ -47,6 +48,7 @@ submitted-transfer id owner path bytes latency cap T = record {
   «bytes_remaining» = whole bytes;
   «rate_cap» = cap;
   rate = nought;
+  limit = Nowhere;
   «last_update» = T;
 }
 

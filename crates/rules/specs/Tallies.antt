@@ -7,10 +7,10 @@ use lib.Dec.{eqb}
 use lib.Ieee.{Float}
 use Rattle.rules.specs.declared.Owner.{Owner}
 use Rattle.rules.specs.declared.Answer.{Answer}
-use Rattle.rules.specs.declared.Answer.the-variants.{Done, Added, Listed, Nothing, Unknown, CannotFinish, Value, Due, Refused}
+use Rattle.rules.specs.declared.Answer.the-variants.{Done, Added, Listed, Nothing, Unknown, CannotFinish, Value, Due, Limited, Refused}
 use Rattle.rules.specs.declared.Flows.{Flows}
 use Rattle.rules.specs.declared.Call.{Call}
-use Rattle.rules.specs.declared.Call.the-variants.{Advance, Submit, Cancel, AddEdge, Widen, TakeCompleted, OwnersWithCompletions, NextCompletionDelay, EstimateNew, Settle, Remaining, MeanInFlight, Rate, Edge, Contains, Rounds}
+use Rattle.rules.specs.declared.Call.the-variants.{Advance, Submit, Cancel, AddEdge, Widen, TakeCompleted, OwnersWithCompletions, NextCompletionDelay, EstimateNew, Settle, Remaining, MeanInFlight, Rate, Bottleneck, Edge, Contains, Rounds}
 use Rattle.rules.specs.declared.Said.{Said}
 use Rattle.rules.specs.declared.Said.the-variants as Said-variants
 use Rattle.rules.specs.Lists.{count, those}
@@ -77,6 +77,7 @@ is-yes Unknown = false
 is-yes CannotFinish = false
 is-yes (Value x) = false
 is-yes (Due d) = false
+is-yes (Limited l) = false
 is-yes (Refused n) = false
 
 -- How many entries an answer says were listed.
@@ -89,6 +90,7 @@ list-length Unknown = 0
 list-length CannotFinish = 0
 list-length (Value x) = 0
 list-length (Due d) = 0
+list-length (Limited l) = 0
 list-length (Refused n) = 0
 
 -- Whether a call said that its work was done.
@@ -122,6 +124,7 @@ noted Settle said buffer l = l
 noted (Remaining id) said buffer l = l
 noted (MeanInFlight e until) said buffer l = l
 noted (Rate id) said buffer l = l
+noted (Bottleneck id) said buffer l = l
 noted (Edge e) said buffer l = l
 noted (Contains id) said buffer l = l
 noted Rounds said buffer l = l

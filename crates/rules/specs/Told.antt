@@ -5,8 +5,10 @@ use mathlib.Core.List.{List, [], _∷_}
 use Rattle.doubles.specs.Doubles.{bits-of}
 use Rattle.rules.specs.declared.Delay.{Delay}
 use Rattle.rules.specs.declared.Delay.the-variants.{After, Never}
+use Rattle.rules.specs.declared.Limit.{Limit}
+use Rattle.rules.specs.declared.Limit.the-variants.{AtEdge, AtCap, Nowhere}
 use Rattle.rules.specs.declared.Answer.{Answer}
-use Rattle.rules.specs.declared.Answer.the-variants.{Done, Added, Listed, Nothing, Unknown, CannotFinish, Value, Due, Refused}
+use Rattle.rules.specs.declared.Answer.the-variants.{Done, Added, Listed, Nothing, Unknown, CannotFinish, Value, Due, Limited, Refused}
 use Rattle.rules.specs.declared.EdgeRead.{EdgeRead}
 use Rattle.rules.specs.declared.EdgeRead.the-variants as EdgeRead-variants
 use Rattle.rules.specs.declared.Said.{Said}
@@ -16,6 +18,12 @@ use Rattle.rules.specs.declared.Said.the-variants.{Answered, Edge, TimeL
 unfoldable pub told-delay : Delay → List ℕ
 told-delay Never = 0 ∷ []
 told-delay (After x) = 1 ∷ bits-of x ∷ []
+
+-- A limit: none, the cap, or the edge's number. (02, P4)
+unfoldable pub told-limit : Limit → List ℕ
+told-limit Nowhere = 0 ∷ []
+told-limit AtCap = 1 ∷ []
+told-limit (AtEdge e) = 2 ∷ e ∷ []
 
 -- An answer. (01, Our forms)
 unfoldable pub told-answer : Answer → List ℕ
@@ -27,7 +35,8 @@ told-answer Unknown = 4 ∷ []
 told-answer CannotFinish = 5 ∷ []
 told-answer (Value x) = 6 ∷ bits-of x ∷ []
 told-answer (Due d) = 7 ∷ told-delay d
-told-answer (Refused n) = 8 ∷ n ∷ []
+told-answer (Limited l) = 8 ∷ told-limit l
+told-answer (Refused n) = 9 ∷ n ∷ []
 
 -- An edge, or its refusal. (01, Our forms)
 unfoldable pub told-edge : EdgeRead → List ℕ

@@ -1,9 +1,9 @@
 -- Which calls touch the simulator, and which answers promise that nothing has changed. (01, Numbers; 02, P10) Definitions only.
 use mathlib.Core.Bool.{Bool, true, false}
 use Rattle.rules.specs.declared.Answer.{Answer}
-use Rattle.rules.specs.declared.Answer.the-variants.{Done, Added, Listed, Nothing, Unknown, CannotFinish, Value, Due, Refused}
+use Rattle.rules.specs.declared.Answer.the-variants.{Done, Added, Listed, Nothing, Unknown, CannotFinish, Value, Due, Limited, Refused}
 use Rattle.rules.specs.declared.Call.{Call}
-use Rattle.rules.specs.declared.Call.the-variants.{Advance, Submit, Cancel, AddEdge, Widen, TakeCompleted, OwnersWithCompletions, NextCompletionDelay, EstimateNew, Settle, Remaining, MeanInFlight, Rate, Edge, Contains, Rounds}
+use Rattle.rules.specs.declared.Call.the-variants.{Advance, Submit, Cancel, AddEdge, Widen, TakeCompleted, OwnersWithCompletions, NextCompletionDelay, EstimateNew, Settle, Remaining, MeanInFlight, Rate, Bottleneck, Edge, Contains, Rounds}
 use Rattle.rules.specs.declared.EdgeRead.the-variants as EdgeRead-variants
 use Rattle.rules.specs.declared.Said.{Said}
 use Rattle.rules.specs.declared.Said.the-variants as Said-variants
@@ -18,6 +18,7 @@ is-no Unknown = true
 is-no CannotFinish = false
 is-no (Value x) = false
 is-no (Due d) = false
+is-no (Limited l) = false
 is-no (Refused n) = true
 
 -- The same of whatever was said; an edge that there is not is refused, too. (01, Numbers)
@@ -38,7 +39,7 @@ pub data Touch : Type 0 where
   -- it fills or drains, whatever it says
   Refreshes : Touch
 
--- How each call does. Asking for a rate, of an unknown id too, or for the next completion still brings rates up to date. (01, Numbers and Questions; 02, P10)
+-- How each call does. Asking for a rate or a bottleneck, of an unknown id too, or for the next completion still brings rates up to date. (01, Numbers and Questions; 02, P4 and P10)
 unfoldable pub touch : Call → Touch
 touch (Advance T) = Works
 touch (Submit submission) = Works
@@ -53,6 +54,7 @@ touch Settle = Refreshes
 touch (Remaining id) = Reads
 touch (MeanInFlight e until) = Reads
 touch (Rate id) = Refreshes
+touch (Bottleneck id) = Refreshes
 touch (Edge e) = Reads
 touch (Contains id) = Reads
 touch Rounds = Reads

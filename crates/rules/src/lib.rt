@@ -19,6 +19,13 @@ pub enum Cap {
     Uncapped,
 }
 
+// What kept a transfer from a higher rate at the last filling: the edge or the cap whose round froze it, or nothing if it had no part in the rounds.
+pub enum Limit {
+    AtEdge(usize),
+    AtCap,
+    Nowhere,
+}
+
 // How long until something happens, in seconds.
 pub enum Delay {
     After(f64),
@@ -59,6 +66,8 @@ pub struct Transfer {
     pub rate_cap: Cap,
     // Bytes a second, as the last filling set it.
     pub rate: f64,
+    // Why it is no faster, as the last filling found.
+    pub limit: Limit,
     // The time up to which it has been drained.
     pub last_update: f64,
 }
@@ -138,6 +147,8 @@ pub enum Answer {
     Value(f64),
     // The time to the next completion.
     Due(Delay),
+    // Why a transfer is no faster.
+    Limited(Limit),
     // The number of the refusal, by document 01's table.
     Refused(u32),
 }
@@ -192,6 +203,7 @@ pub enum Call {
     Remaining(u32),
     MeanInFlight(u32, f64),
     Rate(u32),
+    Bottleneck(u32),
     Edge(u32),
     Contains(u32),
     Rounds,
@@ -290,6 +302,7 @@ impl Transfer {
             bytes_remaining: 0.0,
             rate_cap: Cap::Uncapped,
             rate: 0.0,
+            limit: Limit::Nowhere,
             last_update: 0.0,
         }
     }

@@ -1,10 +1,11 @@
-// The fields that answers and dumps are made of, each with a blank in front, and the page that they gather on.
+// The fields that answers and dumps are made of, most with a blank in front, and the page that they gather on.
 mod page;
 
 ghost use Prim.Native.Nat.{_+_, _≤_};
 ghost use lib.ListN.{length};
 pub use page::room;
 pub use page::write_out;
+use rules::Limit;
 use rules::Owner;
 use rules::Tally;
 use session_pages::put_double;
@@ -55,6 +56,18 @@ pub fn spaced_owner(page: &mut [u8; 65536], at: usize, owner: Owner) -> usize
     let next = put_text(page, at, b" ");
     let next = put_number(page, next, kind as u64);
     spaced_short(page, next, worker)
+}
+
+// Why a transfer is no faster, with no blank in front.
+pub fn limit(page: &mut [u8; 65536], at: usize, limit: Limit) -> usize
+    requires { ⌜ at ≤ 65000 ⌝ }
+    ensures { λ r. ⌜ r ≤ at + 29 ⌝ }
+{
+    match limit {
+        Limit::AtEdge(e) => named(page, at, b"edge", e as u64),
+        Limit::AtCap => put_text(page, at, b"cap"),
+        Limit::Nowhere => put_text(page, at, b"none"),
+    }
 }
 
 // What has been counted of a kind.

@@ -10,10 +10,12 @@ use rules::Delay;
 use rules::Edge;
 use rules::EdgeRead;
 use rules::Flows;
+use rules::Limit;
 use rules::Said;
 use rules::TimeLeft;
 use session_asked::Look;
 use session_dumps::dump;
+use session_fields::limit;
 use session_fields::named;
 use session_fields::spaced;
 use session_fields::spaced_double;
@@ -119,6 +121,7 @@ fn answer(answer: Answer, width: usize, lent: &[u32], page: &mut [u8; 65536], at
         }
         Answer::Value(x) => valued(page, at, b"value ", x),
         Answer::Due(delay) => due(page, at, delay),
+        Answer::Limited(limit) => limited(page, at, limit),
         Answer::Refused(n) => {
             let next = put_text(page, at, b"refused");
             let next = spaced_short(page, next, n);
@@ -191,6 +194,14 @@ fn due(page: &mut [u8; 65536], at: usize, delay: Delay) -> usize
     }
 }
 
+fn limited(page: &mut [u8; 65536], at: usize, by: Limit) -> usize
+    requires { ⌜ at ≤ 49152 ⌝ }
+    ensures { λ r. ⌜ r ≤ 65536 ⌝ }
+{
+    let next = limit(page, at, by);
+    put_text(page, next, b"\n")
+}
+
 // How many numbers an entry of a call's list has; 0 where it lists nothing.
 pub fn width(call: Call) -> usize
     ensures { λ r. ⌜ r ≡ width-of call ⌝ }
@@ -209,6 +220,7 @@ pub fn width(call: Call) -> usize
         Call::Remaining(_) => 0,
         Call::MeanInFlight(_, _) => 0,
         Call::Rate(_) => 0,
+        Call::Bottleneck(_) => 0,
         Call::Edge(_) => 0,
         Call::Contains(_) => 0,
         Call::Rounds => 0,

@@ -1,6 +1,7 @@
 // Submission: a transfer starts, or the lowest refusal that applies is answered.
 use rules::Cap;
 use rules::Flows;
+use rules::Limit;
 use rules::Outcome;
 use rules::Owner;
 use rules::Transfer;
@@ -101,6 +102,7 @@ fn submitted_transfer(
         bytes_remaining: doubles::whole(bytes),
         rate_cap: cap,
         rate: 0.0,
+        limit: Limit::Nowhere,
         last_update: doubles::read_zero(time),
     }
 }

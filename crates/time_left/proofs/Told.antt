@@ -12,7 +12,7 @@ use Rattle.rules.specs.declared.Delay.{Delay}
 use Rattle.rules.specs.declared.Delay.the-variants.{After, Never}
 use Rattle.rules.specs.declared.Transfer.{Transfer}
 use Rattle.rules.specs.declared.Answer.{Answer}
-use Rattle.rules.specs.declared.Answer.the-variants.{Done, Added, Listed, Nothing, Unknown, CannotFinish, Value, Due, Refused}
+use Rattle.rules.specs.declared.Answer.the-variants.{Done, Added, Listed, Nothing, Unknown, CannotFinish, Value, Due, Limited, Refused}
 use Rattle.rules.specs.declared.Flows.{Flows}
 use Rattle.rules.specs.Records.{free, contains}
 use Rattle.rules.specs.Done.{done-eps, is-done, time-to-done}
@@ -39,6 +39,7 @@ seconds Unknown = nought
 seconds CannotFinish = nought
 seconds (Value x) = x
 seconds (Due d) = nought
+seconds (Limited l) = nought
 seconds (Refused n) = nought
 
 is-never : Delay → Bool

@@ -1,12 +1,13 @@
-// One transfer: whose bytes and crossings count, when it is done, and who is done first.
+// One transfer: whose bytes and crossings count, at which rate, when it is done, and who is done first.
 use rules::Delay;
+use rules::Limit;
 use rules::NextDone;
 use rules::Tolerance;
 use rules::Transfer;
 ghost use mathlib.Core.Path.{_≡_};
 ghost use mathlib.Core.Bool.{cond};
 ghost use Rattle.rules.specs.Tolerance.{eps};
-ghost use Rattle.rules.specs.Filling.{takes-part};
+ghost use Rattle.rules.specs.Filling.{takes-part, with-rate};
 ghost use Rattle.rules.specs.Done.{is-done, time-to-done, sooner};
 ghost use Rattle.rules.specs.Clock.{counts-in-loads, soonest, ahead};
 
@@ -28,6 +29,27 @@ pub fn counts_in_loads(t: Transfer) -> bool
     ensures { λ r. ⌜ r ≡ counts-in-loads t ⌝ }
 {
     t.taken
+}
+
+// The transfer at another rate, with the reason why it is no higher.
+pub fn with_rate(t: Transfer, rate: f64, limit: Limit) -> Transfer
+    ensures { λ r. ⌜ r ≡ with-rate rate limit t ⌝ }
+{
+    let owner = t.owner;
+    let path = t.path;
+    let rate_cap = t.rate_cap;
+    Transfer {
+        taken: t.taken,
+        id: t.id,
+        owner: owner,
+        path: path,
+        latency_remaining: t.latency_remaining,
+        bytes_remaining: t.bytes_remaining,
+        rate_cap: rate_cap,
+        rate: rate,
+        limit: limit,
+        last_update: t.last_update,
+    }
 }
 
 // ---- being done

@@ -120,14 +120,23 @@ changing-requires-8 c κs = search needs
 enum-known-call-11 : tie.Need-enum-known-call-11
 enum-known-call-11 c = search needs
 
+bottleneck-requires : tie.Need-bottleneck-requires
+bottleneck-requires c κs = search needs
+
+changing-requires-9 : tie.Need-changing-requires-9
+changing-requires-9 c κs = search needs
+
+enum-known-call-12 : tie.Need-enum-known-call-12
+enum-known-call-12 c = search needs
+
 edge-requires : tie.Need-edge-requires
 edge-requires c κs = search needs
 
 asking-requires-4 : tie.Need-asking-requires-4
 asking-requires-4 c κs = search needs
 
-enum-known-call-12 : tie.Need-enum-known-call-12
-enum-known-call-12 c = search needs
+enum-known-call-13 : tie.Need-enum-known-call-13
+enum-known-call-13 c = search needs
 
 contains-requires : tie.Need-contains-requires
 contains-requires c κs = search needs
@@ -239,17 +248,23 @@ returns-14 : tie.Need-returns-14
 unfolding call
 returns-14 c =
     let is = c .before .before .before .call11 .given .1 in
-    (rw (is, c .asking4 .ensures, c .before .edge .ensures) refl, (rw is refl, rw (c .asking4 .ensures) (c .before .before .before .before .before .before .before .pre)))
+    (rw (is, c .changing9 .ensures, c .before .bottleneck .ensures .0) refl, (rw is refl, rw (c .changing9 .ensures) (c .before .bottleneck .ensures .1)))
 
 returns-15 : tie.Need-returns-15
 unfolding call
 returns-15 c =
     let is = c .before .before .before .call12 .given .1 in
-    (rw (is, c .asking5 .ensures, c .before .contains .ensures) refl, (rw is refl, rw (c .asking5 .ensures) (c .before .before .before .before .before .before .before .pre)))
+    (rw (is, c .asking4 .ensures, c .before .edge .ensures) refl, (rw is refl, rw (c .asking4 .ensures) (c .before .before .before .before .before .before .before .pre)))
 
 returns-16 : tie.Need-returns-16
 unfolding call
 returns-16 c =
+    let is = c .before .before .before .call13 .given .1 in
+    (rw (is, c .asking5 .ensures, c .before .contains .ensures) refl, (rw is refl, rw (c .asking5 .ensures) (c .before .before .before .before .before .before .before .pre)))
+
+returns-17 : tie.Need-returns-17
+unfolding call
+returns-17 c =
     let is = c .before .before .enum-told4 .given .1 in
     (rw (is, c .asking6 .ensures, c .before .rounds .ensures) refl, (rw is refl, rw (c .asking6 .ensures) (c .before .before .before .before .before .before .pre)))
 
@@ -295,9 +310,12 @@ make-spec =
     rate-requires
     changing-requires-8
     enum-known-call-11
+    bottleneck-requires
+    changing-requires-9
+    enum-known-call-12
     edge-requires
     asking-requires-4
-    enum-known-call-12
+    enum-known-call-13
     contains-requires
     asking-requires-5
     enum-told-4
@@ -321,4 +339,5 @@ make-spec =
     returns-13
     returns-14
     returns-15
-    returns-16)
+    returns-16
+    returns-17)

@@ -14,9 +14,12 @@ returns : tie.Need-returns
 unfolding seat
 returns c = rw (c .entered .ensures, ← c .before .before .takes-part .ensures, c .before .if1 .taken)
 
+with-rate-requires : tie.Need-with-rate-requires
+with-rate-requires c κs = search needs
+
 returns-2 : tie.Need-returns-2
 unfolding seat
-returns-2 c = rw (← c .before .takes-part .ensures, c .if1 .left)
+returns-2 c = rw (c .with-rate .ensures, ← c .before .before .takes-part .ensures, c .before .if1 .left)
 
 pub seat-spec : {M : Type 1} → statement M
-seat-spec = tie.close (tie.spec takes-part-requires entered-requires returns returns-2)
+seat-spec = tie.close (tie.spec takes-part-requires entered-requires returns with-rate-requires returns-2)

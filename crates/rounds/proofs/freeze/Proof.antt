@@ -2,7 +2,7 @@
 use mathlib.Core.Path.{refl, sym, _∙_}
 use mathlib.Core.Bool.{true, false}
 use Rattle.rules.specs.Records.{own-path}
-use Rattle.rules.specs.Filling.{names, with-rate}
+use Rattle.rules.specs.Filling.{names}
 use Rattle.paths.proofs.Routes.{known-route, route-length}
 use Rattle.rounds.proofs.Freezing.{freezes-when, freezes-not, freeze-when}
 use native.Mathlib.Omega.{arith}
@@ -41,6 +41,12 @@ lower-requires : tie.Need-lower-requires
 unfolding own-path
 lower-requires c κs = (rw (c .before .before .before .before .before .before .before .before .before .before .before .before .before .before .before .before .before .pre .loads) (known-route (c .before .before .before .before .before .before .before .before .before .before .before .before .before .before .before .before .before .pre .path)), c .before .before .before .before .before .before .before .before .before .before .before .before .before .before .before .before .before .pre .counted (c .before .before .before .before .before .before .before .before .before .before .before .before .before .before .if1 .taken))
 
+limit-by-requires : tie.Need-limit-by-requires
+limit-by-requires c κs = search needs
+
+with-rate-requires : tie.Need-with-rate-requires
+with-rate-requires c κs = search needs
+
 same-length : tie.Need-same-length
 same-length c = search needs
 
@@ -48,13 +54,13 @@ same-length-2 : tie.Need-same-length-2
 same-length-2 c = search needs
 
 returns : tie.Need-returns
-unfolding own-path with-rate
+unfolding own-path
 returns c =
-    let f = freezes-when (c .before .before .before .before .before .before .before .before .before .before .before .before .before .before .before .before .before .before .before .before .args .v) (c .before .before .before .before .before .before .before .before .before .before .before .before .before .before .before .before .before .before .before .before .args .i) (c .before .before .before .before .before .before .before .before .before .before .before .before .before .before .before .before .before .before .before .before .args .s) true (c .before .before .before .before .before .before .before .before .before .before .before .before .before .before .before .before .before .if1 .taken) (sym (c .before .before .before .before .before .before .before .before .before .before .before .before .names .ensures) ∙ c .before .before .before .before .before .before .before .before .before .before .before .if2 .taken) in (
-      rw (freeze-when (c .before .before .before .before .before .before .before .before .before .before .before .before .before .before .before .before .before .before .before .before .args .v) (c .before .before .before .before .before .before .before .before .before .before .before .before .before .before .before .before .before .before .before .before .args .i) (c .before .before .before .before .before .before .before .before .before .before .before .before .before .before .before .before .before .before .before .before .args .s) true f, ← c .before .before .before .before .before .before .before .before .before .before .rate-by .ensures),
+    let f = freezes-when (c .before .before .before .before .before .before .before .before .before .before .before .before .before .before .before .before .before .before .before .before .before .before .args .v) (c .before .before .before .before .before .before .before .before .before .before .before .before .before .before .before .before .before .before .before .before .before .before .args .i) (c .before .before .before .before .before .before .before .before .before .before .before .before .before .before .before .before .before .before .before .before .before .before .args .s) true (c .before .before .before .before .before .before .before .before .before .before .before .before .before .before .before .before .before .before .before .if1 .taken) (sym (c .before .before .before .before .before .before .before .before .before .before .before .before .before .before .names .ensures) ∙ c .before .before .before .before .before .before .before .before .before .before .before .before .before .if2 .taken) in (
+      rw (freeze-when (c .before .before .before .before .before .before .before .before .before .before .before .before .before .before .before .before .before .before .before .before .before .before .args .v) (c .before .before .before .before .before .before .before .before .before .before .before .before .before .before .before .before .before .before .before .before .before .before .args .i) (c .before .before .before .before .before .before .before .before .before .before .before .before .before .before .before .before .before .before .before .before .before .before .args .s) true f, ← c .before .before .before .before .before .before .before .before .before .before .before .before .rate-by .ensures, ← c .before .limit-by .ensures, c .with-rate .ensures),
       (
-        rw (f, c .before .before .before .before .before .before .before .spend .ensures, ← c .before .before .before .before .before .before .before .before .before .before .rate-by .ensures),
-        rw (f, c .before .before .lower .ensures),
+        rw (f, c .before .before .before .before .before .before .before .before .before .spend .ensures, ← c .before .before .before .before .before .before .before .before .before .before .before .before .rate-by .ensures),
+        rw (f, c .before .before .before .before .lower .ensures),
       ),
     )
 
@@ -83,6 +89,8 @@ freeze-spec =
     array-share-prefix-hops-3
     slice-aggregate-lower
     lower-requires
+    limit-by-requires
+    with-rate-requires
     same-length
     same-length-2
     returns

@@ -3,7 +3,7 @@ use Prim.Native.Nat.{ℕ}
 use native.Mathlib.Omega.{arith}
 use mathlib.Core.Path.{_≡_, refl, sym, subst, ap, _∙_}
 use mathlib.Core.Bool.{Bool, true, false, cond}
-use mathlib.Core.List.{[], _∷_}
+use mathlib.Core.List.{List, [], _∷_}
 use lib.Ieee.{Float}
 use types.Run.{OneOf, miss}
 use denote.Enum.Declared.{tagOf}
@@ -19,9 +19,16 @@ use Rattle.rules.proofs.Answer.{the-type}
 use Rattle.session.proofs.renewed.Statement.{statement}
 use Rattle.session.proofs.renewed.Tie as tie
 
+-- The place of a refusal among the answers, and those of the others.
+abbrev refusal : ℕ
+refusal = 9
+
+abbrev others : List ℕ
+others = 0 ∷ 1 ∷ 2 ∷ 3 ∷ 4 ∷ 5 ∷ 6 ∷ 7 ∷ 8 ∷ []
+
 -- Any answer but a refusal.
 abbrev Otherwise : Answer → Type 0
-Otherwise a = OneOf (0 ∷ 1 ∷ 2 ∷ 3 ∷ 4 ∷ 5 ∷ 6 ∷ 7 ∷ []) (tagOf the-type a)
+Otherwise a = OneOf others (tagOf the-type a)
 
 -- What is made, by whether the floor is none.
 abbrev made : Float → Bool → Outcome
@@ -32,7 +39,7 @@ unfolding with-floor refusing
 taken floor f r same other = go (not-a-floor floor) same
   where
     go : (none : Bool) → r ≡ made floor none → r .flows ≡ cond none f (made floor none .flows)
-    go true e = absurd (miss (0 ∷ 1 ∷ 2 ∷ 3 ∷ 4 ∷ 5 ∷ 6 ∷ 7 ∷ []) 8 tt (subst (λ (o : Outcome). Otherwise (o .answer)) e other))
+    go true e = absurd (miss others refusal tt (subst (λ (o : Outcome). Otherwise (o .answer)) e other))
     go false e = ap (λ (o : Outcome). o .flows) e
 
 not-taken : (floor : Float) (f : Flows) (r : Outcome) → r ≡ with-floor floor → (n : ℕ) → r .answer ≡ Refused n → f ≡ cond (not-a-floor floor) f (with-floor floor .flows)
@@ -41,7 +48,7 @@ not-taken floor f r same n other = go (not-a-floor floor) same
   where
     go : (none : Bool) → r ≡ made floor none → f ≡ cond none f (made floor none .flows)
     go true e = refl
-    go false e = let tags : _≡_ {A = ℕ} 0 8 = ap (tagOf the-type) (sym (ap (λ (o : Outcome). o .answer) e) ∙ other) in absurd (omega (arith, tags))
+    go false e = let tags : _≡_ {A = ℕ} 0 refusal = ap (tagOf the-type) (sym (ap (λ (o : Outcome). o .answer) e) ∙ other) in absurd (omega (arith, tags))
 
 with-floor-requires : tie.Need-with-floor-requires
 with-floor-requires c κs = search needs

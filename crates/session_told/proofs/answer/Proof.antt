@@ -71,6 +71,12 @@ due-requires c κs = search needs
 enum-known-answer-5 : tie.Need-enum-known-answer-5
 enum-known-answer-5 c = search needs
 
+limited-requires : tie.Need-limited-requires
+limited-requires c κs = search needs
+
+enum-known-answer-6 : tie.Need-enum-known-answer-6
+enum-known-answer-6 c = search needs
+
 slice-aggregate-put-text-4 : tie.Need-slice-aggregate-put-text-4
 slice-aggregate-put-text-4 c = search needs
 
@@ -107,6 +113,9 @@ returns-7 c = search needs
 returns-8 : tie.Need-returns-8
 returns-8 c = search needs
 
+returns-9 : tie.Need-returns-9
+returns-9 c = search needs
+
 pub answer-spec : {M : Type 1} → statement M
 answer-spec =
     tie.close
@@ -133,6 +142,8 @@ answer-spec =
     enum-known-answer-4
     due-requires
     enum-known-answer-5
+    limited-requires
+    enum-known-answer-6
     slice-aggregate-put-text-4
     put-text-requires-4
     spaced-short-requires
@@ -144,4 +155,5 @@ answer-spec =
     returns-5
     returns-6
     returns-7
-    returns-8)
+    returns-8
+    returns-9)

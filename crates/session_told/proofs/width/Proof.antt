@@ -52,6 +52,9 @@ enum-told-15 c = search needs
 enum-told-16 : tie.Need-enum-told-16
 enum-told-16 c = search needs
 
+enum-told-17 : tie.Need-enum-told-17
+enum-told-17 c = search needs
+
 returns : tie.Need-returns
 unfolding width-of
 returns c = search needs
@@ -116,6 +119,10 @@ returns-16 : tie.Need-returns-16
 unfolding width-of
 returns-16 c = search needs
 
+returns-17 : tie.Need-returns-17
+unfolding width-of
+returns-17 c = search needs
+
 pub width-spec : {M : Type 1} → statement M
 width-spec =
     tie.close
@@ -136,6 +143,7 @@ width-spec =
     enum-told-14
     enum-told-15
     enum-told-16
+    enum-told-17
     returns
     returns-2
     returns-3
@@ -151,4 +159,5 @@ width-spec =
     returns-13
     returns-14
     returns-15
-    returns-16)
+    returns-16
+    returns-17)
