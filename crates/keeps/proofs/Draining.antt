@@ -42,7 +42,7 @@ unfolding at-each-crossing
 map-crossing c f same [] xs = refl
 map-crossing c f same (e ∷ path) xs = map-crossing c f same path (update e f xs) ∙ map-update c f same e xs
 
-delivered-capacity : (until : Float) (edges : List Edge) (slots : List Transfer) → map (λ e. e .capacity) (foldl (deliver own-path until) edges slots) ≡ map (λ e. e .capacity) edges
+pub delivered-capacity : (until : Float) (edges : List Edge) (slots : List Transfer) → map (λ e. e .capacity) (foldl (deliver own-path until) edges slots) ≡ map (λ e. e .capacity) edges
 unfolding deliver gain-moved
 delivered-capacity until edges [] = refl
 delivered-capacity until edges (t ∷ slots) =
@@ -55,9 +55,10 @@ delivered-capacity until edges (t ∷ slots) =
 same-who : (t u : Transfer) → Same t u → who u ≡ who t
 same-who t u s = rw (s .taken, s .id, s .owner, s .path) refl
 
-drained-alike : (until : Float) (slots : List Transfer) → map who (map (drained until) slots) ≡ map who slots
-drained-alike until [] = refl
-drained-alike until (t ∷ slots) = rw (drained-alike until slots, same-who t (drained until t) (drained-same until t)) refl
+-- what a drain leaves of each transfer it leaves of all
+pub each-drained : {A : Type 0} (g : Transfer → A) (until : Float) → ((t : Transfer) → g (drained until t) ≡ g t) → (slots : List Transfer) → map g (map (drained until) slots) ≡ map g slots
+each-drained g until same [] = refl
+each-drained g until same (t ∷ slots) = rw (each-drained g until same slots, same t) refl
 
 -- ---- slots drained, then time passed
 
@@ -75,7 +76,7 @@ module _ (until : Float) (g : Flows) (time : ClockTime until) (later : T (g .clo
   after = retimed edges slots until until g
 
   alike : Alike (g .«in_flight») slots
-  alike = record { same = drained-alike until (g .«in_flight») }
+  alike = record { same = each-drained who until (λ t. same-who t (drained until t) (drained-same until t)) (g .«in_flight») }
 
   -- the last drain was no later than now, and so than that time
   since : T (g .clock .«last_drain» ≼ until)

@@ -24,6 +24,7 @@ pub mod Draining
 pub mod Calls
 pub mod Kept
 pub mod Always
+pub mod Standing
 pub mod Unmoved
 pub mod Zeros
 pub mod Watching

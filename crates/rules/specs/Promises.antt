@@ -3,7 +3,7 @@ use Prim.Native.Nat.{ℕ}
 use mathlib.Core.Path.{_≡_}
 use mathlib.Core.Logic.{_⊎_, _↔_}
 use mathlib.Core.Bool.{Bool, true, false, not, _&&_, _||_}
-use mathlib.Core.List.{List, _++_}
+use mathlib.Core.List.{List, _++_, map}
 use lib.Dec.{T, ltb}
 use lib.ListN.{length, getD}
 use lib.Ieee.{Float, binary64, fits}
@@ -34,7 +34,7 @@ use Rattle.rules.specs.Questions.{estimate-causes, edge-causes, mean-cau
 use Rattle.rules.specs.TimeLeft.{settle, remaining-in, behind, remaining}
 use Rattle.rules.specs.Histories.{call, zeros-read, Turn, typed, after, run, run-with-floor, journal}
 use Rattle.rules.specs.Invariant.{Invariant}
-use Rattle.rules.specs.Fair.{FairFilling, ExplainedFilling, NobodySlowerFilling}
+use Rattle.rules.specs.Fair.{rated, FairFilling, ExplainedFilling, NobodySlowerFilling}
 use Rattle.rules.specs.Tallies.{Tallied}
 use Rattle.rules.specs.Unmoved.{says-no, touch, unmoved, only-reads}
 
@@ -65,6 +65,21 @@ AlwaysExplained = (floor : Float) (turns : List Turn) → T (fits binary64 floor
 -- And so, in the request's own words: nobody is slower than its cap or a real bottleneck explains. (02, P4)
 abbrev pub AlwaysNobodySlower : Type 0
 AlwaysNobodySlower = (floor : Float) (turns : List Turn) → T (fits binary64 floor) → T (all typed turns) → WhereverFilled NobodySlowerFilling (run-with-floor floor turns)
+
+-- What a slot keeps from one filling to the next: all but what is left of its latency and its bytes, and the time of its last drain. (02, P4)
+abbrev pub standing : Transfer → Transfer
+standing t = record { taken = t .taken; id = t .id; owner = t .owner; path = t .path; «latency_remaining» = nought; «bytes_remaining» = nought; «rate_cap» = t .«rate_cap»; rate = t .rate; limit = t .limit; «last_update» = nought }
+
+-- A simulator's slots and capacities are as a filling left them, that of a simulator with the invariant. (02, P4)
+pub record AsFilled (f : Flows) : Type 0 where
+  pub last : Flows
+  pub sound : Invariant last
+  pub slots : map standing (f .«in_flight») ≡ map standing (rated last)
+  pub capacities : map (λ e. e .capacity) (f .edges) ≡ map (λ e. e .capacity) (last .edges)
+
+-- What `rate` and `bottleneck` read, rates being up to date, is what the last filling left, whatever was drained since: so the limit that is told is one that `SoundExplained` speaks of. (02, P4)
+abbrev pub AlwaysAsFilled : Type 0
+AlwaysAsFilled = (floor : Float) (turns : List Turn) → T (fits binary64 floor) → T (all typed turns) → AsFilled (ensure-rates (run-with-floor floor turns))
 
 -- The filling of a simulator's transfers has ended with nobody unfrozen, and not because its rounds ran out. (01, Filling)
 abbrev pub AllFrozen : Flows → Type 0
