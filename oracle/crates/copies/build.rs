@@ -13,7 +13,7 @@ fn make() -> Result<(), String> {
     let flows = making::flows_text()?;
     let patch = include_str!("../../slots.patch");
     let patched = making::record_drains(&making::count_rounds(&making::apply_patch(&flows, patch)?)?)?;
-    let patched = making::mark_unreachable(&making::set_floor(&patched)?)?;
+    let patched = making::mark_unreachable(&making::set_floor(&making::record_bottlenecks(&patched)?)?)?;
     let given_ends = [include_str!("src/accessors.txt"), include_str!("src/without_slots.txt")].concat();
     let patched_ends = making::mark_drains(&[include_str!("src/accessors.txt"), include_str!("src/with_slots.txt")].concat())?;
     let plain = "use crate::plain::{inward, outward};\n";

@@ -14,7 +14,7 @@ fn make() -> Result<(), String> {
     }
     let patch = include_str!("../../slots.patch");
     let patched = making::record_drains(&making::count_rounds(&making::apply_patch(&making::flows_text()?, patch)?)?)?;
-    let patched = making::set_floor(&patched)?;
+    let patched = making::set_floor(&making::record_bottlenecks(&patched)?)?;
     let ends = [
         "use crate::plain::{inward, outward};\n",
         include_str!("../copies/src/accessors.txt"),

@@ -7,7 +7,7 @@ pub mod slots;
 
 include!(concat!(env!("OUT_DIR"), "/modules.rs"));
 
-pub use simulator::{Double, EdgeView, Party, Simulator, Submission, TransferView};
+pub use simulator::{Bottleneck, Double, EdgeView, Party, Simulator, Submission, TransferView};
 
 /// Which hash map the copy as given was built with.
 pub const HASH_MAP: &str = rustc_hash::SOURCE;

@@ -29,6 +29,15 @@ pub struct EdgeView {
     pub load_integral: Double,
 }
 
+/// Who froze a transfer at the last filling.
+#[derive(Clone, Copy, Debug, PartialEq, Eq)]
+pub enum Bottleneck {
+    /// It took no part, or has no path.
+    Outside,
+    Cap,
+    Edge(usize),
+}
+
 /// A transfer in flight as it stands; the copy in hash order has no slots.
 pub struct TransferView {
     pub slot: Option<usize>,
@@ -40,6 +49,8 @@ pub struct TransferView {
     pub rate: Double,
     pub last: Double,
     pub path: Vec<usize>,
+    /// Only the patched copies record it.
+    pub by: Option<Bottleneck>,
 }
 
 pub trait Simulator {
@@ -66,6 +77,8 @@ pub trait Simulator {
     fn time_left(&self, id: u32) -> Option<Option<Double>>;
     /// Brings rates up to date and reads one.
     fn rate(&mut self, id: u32) -> Option<Double>;
+    /// Brings rates up to date and tells who froze a transfer: none for an unknown id, and nobody where the copy has no record of it.
+    fn bottleneck(&mut self, id: u32) -> Option<Option<Bottleneck>>;
     fn mean_in_flight(&self, edge: usize, until: Double) -> Double;
 
     fn now(&self) -> Double;

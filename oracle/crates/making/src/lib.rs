@@ -99,6 +99,18 @@ pub fn record_drains(text: &str) -> Result<String, String> {
     substitute(&text, drain, &format!("{drain}        self.last_drain = now;\n"))
 }
 
+/// Adds who froze each transfer: a field, nobody in a submission and at the start of a filling, written where the round of a cap or of an edge freezes.
+pub fn record_bottlenecks(text: &str) -> Result<String, String> {
+    let inserted = [
+        ("struct Transfer {\n", "    frozen_by: Bottleneck,\n"),
+        ("            Transfer {\n                owner,\n", "                frozen_by: Bottleneck::Outside,\n"),
+        ("fn recompute_rates(&mut self) {\n", "        self.in_flight.values_mut().for_each(|t| t.frozen_by = Bottleneck::Outside);\n"),
+        ("ts[i].rate = cap.max(0.0);\n", "                    ts[i].frozen_by = Bottleneck::Cap;\n"),
+        ("                t.rate = share.max(0.0);\n", "                t.frozen_by = Bottleneck::Edge(edge);\n"),
+    ];
+    inserted.iter().try_fold(text.to_string(), |text, (context, line)| substitute(&text, context, &format!("{context}{line}")))
+}
+
 /// Makes the floor of eps a setting: a field, in a fresh simulator the Rust's constant, that is read where the constant was. Elsewhere nothing may read the constant.
 pub fn set_floor(text: &str) -> Result<String, String> {
     let field = "pub struct Flows {\n";
@@ -233,6 +245,22 @@ mod tests {
         assert_eq!(lines[..3], ["pub struct Flows {", "last_drain: f64,", "now: f64,"]);
         assert_eq!(lines[5..], ["return;", "}", "self.last_drain = now;", "if now > self.now {"]);
         assert!(record_drains("another flows.rs").is_err());
+    }
+
+    #[test]
+    fn who_froze_a_transfer_is_recorded_where_it_is_frozen() {
+        let text = "struct Transfer {\n    rate: f64,\n}\n            Transfer {\n                owner,\n            }\nfn recompute_rates(&mut self) {\n    let n;\n\
+                    ts[i].rate = cap.max(0.0);\nfor &e\n                t.rate = share.max(0.0);\nfor &e\n";
+        let recorded = record_bottlenecks(text).unwrap();
+        let lines: Vec<&str> = recorded.lines().map(str::trim).collect();
+        assert_eq!(lines[..3], ["struct Transfer {", "frozen_by: Bottleneck,", "rate: f64,"]);
+        assert_eq!(lines[4..7], ["Transfer {", "owner,", "frozen_by: Bottleneck::Outside,"]);
+        assert_eq!(lines[9..11], ["self.in_flight.values_mut().for_each(|t| t.frozen_by = Bottleneck::Outside);", "let n;"]);
+        assert_eq!(lines[11..13], ["ts[i].rate = cap.max(0.0);", "ts[i].frozen_by = Bottleneck::Cap;"]);
+        assert_eq!(lines[14..16], ["t.rate = share.max(0.0);", "t.frozen_by = Bottleneck::Edge(edge);"]);
+        for (gone, other) in [("cap.max", "cap.min"), ("= share", "= shares"), ("recompute", "compute"), ("owner", "owners"), ("struct", "enum")] {
+            assert!(record_bottlenecks(&text.replace(gone, other)).is_err(), "{gone}");
+        }
     }
 
     #[test]
