@@ -27,6 +27,7 @@ pub enum Call {
     Remaining { id: u32 },
     MeanInFlight { edge: u32, until: f64 },
     Rate { id: u32 },
+    Bottleneck { id: u32 },
     Rounds,
     Contains { id: u32 },
     Now,
@@ -127,6 +128,7 @@ impl<'a> Words<'a> {
             "remaining" => Call::Remaining { id: self.number()? },
             "mean_in_flight" => Call::MeanInFlight { edge: self.number()?, until: self.double()? },
             "rate" => Call::Rate { id: self.number()? },
+            "bottleneck" => Call::Bottleneck { id: self.number()? },
             "rounds" => Call::Rounds,
             "contains" => Call::Contains { id: self.number()? },
             "now" => Call::Now,
@@ -283,6 +285,7 @@ impl fmt::Display for Call {
             Call::Remaining { id } => write!(f, "remaining {id}"),
             Call::MeanInFlight { edge, until } => write!(f, "mean_in_flight {edge} {}", double(until)),
             Call::Rate { id } => write!(f, "rate {id}"),
+            Call::Bottleneck { id } => write!(f, "bottleneck {id}"),
             Call::Rounds => write!(f, "rounds"),
             Call::Contains { id } => write!(f, "contains {id}"),
             Call::Now => write!(f, "now"),
@@ -311,13 +314,13 @@ mod tests {
     #[test]
     fn a_call_is_read_back_as_written() {
         let lines = ["submit 1 0 7 100 0.25 - 3 2 0 1", "advance 4014000000000001 768", "widen 0 -1", "new", "dump", "run_until 2.5", "finish"];
-        for line in lines.into_iter().chain(["settle", "remaining 4294967295", "new 0.001", "new 0.000000000001", "new 3d719799812dea12", "new -3"]) {
+        for line in lines.into_iter().chain(["settle", "remaining 4294967295", "bottleneck 0", "bottleneck 4294967295", "new 0.001", "new 0.000000000001", "new 3d719799812dea12", "new -3"]) {
             let Line::Call(call) = read_line(line) else { panic!("{line}") };
             assert_eq!(call.to_string(), line);
         }
         assert!(matches!(read_line("  # only a remark"), Line::Blank));
         for line in ["now 1", "run_until", "run_until 1 768", "run_until -", "finish 1", "settle 1", "remaining", "remaining 1 1", "estimate_remaining 1", "new -", "new 1e-3", "new 0.001 1",
-            "new floor", "news"] {
+            "new floor", "news", "bottleneck", "bottleneck 1 1", "bottleneck 4294967296", "bottleneck -1", "bottlenecks 1"] {
             assert!(matches!(read_line(line), Line::Malformed), "{line}");
         }
     }

@@ -4,7 +4,7 @@
 //! that holds is the answer. Everything that is computed comes from the copy.
 
 use crate::script::{hex, kind, lines, read_line, worker, write_path, Call, Line};
-use copies::{Party, Simulator, Submission};
+use copies::{Bottleneck, Party, Simulator, Submission};
 use std::io::{BufRead, Write};
 
 /// The bounds of document 01.
@@ -23,7 +23,7 @@ pub struct Session {
     pub sim: Box<dyn Simulator>,
     completed: [u64; 3],
     cancelled: [u64; 3],
-    /// Leaves slots and rounds out, and the last drain where nobody is in flight, for a copy that has none.
+    /// Leaves slots, rounds and who froze whom out, and the last drain where nobody is in flight, for a copy that has none.
     common: bool,
     /// More steps in one `run_until` or `finish` are a panic: a faulty copy may step on for ever.
     pub most_steps: usize,
@@ -134,6 +134,7 @@ impl Session {
             Call::Remaining { id } => self.remaining(*id),
             Call::MeanInFlight { edge, until } => value(self.sim.mean_in_flight(*edge as usize, plus_zero(*until))),
             Call::Rate { id } => self.sim.rate(*id).map_or("unknown".to_string(), value),
+            Call::Bottleneck { id } => self.sim.bottleneck(*id).map_or("unknown".to_string(), |by| self.frozen_by(by)),
             Call::Rounds => format!("number {}", self.rounds()),
             Call::Contains { id } => (if self.sim.contains(*id) { "yes" } else { "no" }).to_string(),
             Call::Now => value(self.sim.now()),
@@ -273,6 +274,16 @@ impl Session {
         }
     }
 
+    /// Who froze a transfer; `-` in the common form, for the Rust as given can't tell.
+    fn frozen_by(&self, by: Option<Bottleneck>) -> String {
+        match by.filter(|_| !self.common) {
+            None => "-".to_string(),
+            Some(Bottleneck::Outside) => "none".to_string(),
+            Some(Bottleneck::Cap) => "cap".to_string(),
+            Some(Bottleneck::Edge(edge)) => format!("edge {edge}"),
+        }
+    }
+
     fn edge(&self, edge: usize) -> String {
         let e = self.sim.edge(edge);
         format!("{} {} {}", hex(e.capacity), hex(e.bytes_moved), hex(e.load_integral))
@@ -324,7 +335,7 @@ impl Session {
         let line = |t: &copies::TransferView| {
             let slot = t.slot.filter(|_| !self.common).map_or("-".to_string(), |s| s.to_string());
             format!(
-                "slot {slot} {} {} {} {} {} {} {} {} {}",
+                "slot {slot} {} {} {} {} {} {} {} {} {} by {}",
                 t.id,
                 kind(t.owner),
                 worker(t.owner),
@@ -333,7 +344,8 @@ impl Session {
                 t.cap.map_or("-".to_string(), hex),
                 hex(t.rate),
                 hex(t.last),
-                write_path(&t.path)
+                write_path(&t.path),
+                self.frozen_by(t.by)
             )
         };
         transfers.iter().map(line).collect()
@@ -576,6 +588,36 @@ mod tests {
         assert_ne!(plan("0.0001", &quiet)[3], left(0.0, "current"));
         assert_eq!(plan("0.001", &["advance 0.0095 768"]), ["list 1 0 0 1 tail-kept"]);
         assert_eq!(plan("0.0001", &["advance 0.0095 768"]), [nobody]);
+    }
+
+    #[test]
+    fn who_froze_a_transfer_is_told_by_the_last_filling() {
+        // Without bytes at the second filling the first takes no part, and has its rate still.
+        let first = ["bottleneck 1", "submit 2 0 0 100 0 - 10 1 0", "bottleneck 1", "rate 1", "bottleneck 2", "bottleneck 3"];
+        let rate = value(10.0);
+        assert_eq!(after_one(&first), ["edge 0", "done", "none", &rate, "edge 0", "unknown"]);
+        let capped = ["submit 2 0 0 100 0 5 0 1 0", "submit 3 0 0 100 0 4 0 1 0", "submit 4 0 0 100 0 4 0 0", "bottleneck 2", "bottleneck 3", "bottleneck 4"];
+        assert_eq!(after_one(&capped)[3..], ["edge 0", "edge 0", "none"]);
+        assert_eq!(after_one(&["submit 2 0 0 100 0 4 0 1 0", "bottleneck 2", "bottleneck 1"])[1..], ["cap", "edge 0"]);
+    }
+
+    #[test]
+    fn a_dump_shows_who_froze_whom_and_fills_nothing() {
+        let shown = |calls: &[&str]| -> Vec<String> {
+            let dump = after_one(calls).pop().unwrap_or_default();
+            dump.lines().filter_map(|line| line.strip_prefix("slot ")?.split_once(" by ")).map(|(_, by)| by.to_string()).collect()
+        };
+        assert_eq!(shown(&["dump"]), ["edge 0"]);
+        assert_eq!(shown(&["submit 2 0 0 100 0 1 0 1 0", "dump"]), ["edge 0", "none"]);
+        assert_eq!(shown(&["submit 2 0 0 100 0 1 0 1 0", "bottleneck 9", "dump"]), ["edge 0", "cap"]);
+    }
+
+    #[test]
+    fn the_rust_as_given_cannot_tell_who_froze_a_transfer() {
+        assert_eq!(after_two(&["bottleneck 1"]), "-");
+        assert_eq!(after_two(&["bottleneck 3"]), "unknown");
+        assert!(after_two(&["bottleneck 3", "dump"]).lines().filter(|line| line.starts_with("slot ")).all(|line| line.ends_with(" 1 0 by -")));
+        assert!(after_two(&["bottleneck 3", "dump"]).contains(" stale 0 "));
     }
 
     #[test]
