@@ -64,6 +64,7 @@ enum Kind {
     Remaining,
     Mean,
     Rate,
+    Bottleneck,
     Rounds,
     Contains,
     Now,
@@ -75,7 +76,7 @@ enum Kind {
     New,
 }
 
-const KINDS: [Kind; 22] = [
+const KINDS: [Kind; 23] = [
     Kind::Submit,
     Kind::Advance,
     Kind::Cancel,
@@ -89,6 +90,7 @@ const KINDS: [Kind; 22] = [
     Kind::Remaining,
     Kind::Mean,
     Kind::Rate,
+    Kind::Bottleneck,
     Kind::Rounds,
     Kind::Contains,
     Kind::Now,
@@ -100,11 +102,11 @@ const KINDS: [Kind; 22] = [
     Kind::New,
 ];
 
-const USUAL: [usize; 22] = [44, 40, 10, 6, 4, 8, 5, 14, 10, 5, 9, 5, 11, 7, 4, 3, 7, 5, 4, 8, 1, 3];
+const USUAL: [usize; 23] = [44, 40, 10, 6, 4, 8, 5, 14, 10, 5, 9, 5, 11, 12, 7, 4, 3, 7, 5, 4, 8, 1, 3];
 /// More submissions than completions.
-const BUSY: [usize; 22] = [90, 30, 10, 6, 4, 8, 5, 12, 10, 5, 9, 5, 11, 7, 4, 3, 7, 5, 4, 8, 2, 3];
+const BUSY: [usize; 23] = [90, 30, 10, 6, 4, 8, 5, 12, 10, 5, 9, 5, 11, 14, 7, 4, 3, 7, 5, 4, 8, 2, 3];
 /// Many submissions, few completions, and dumps seldom, for they are long; a crowd that is finished is none.
-const CROWDED: [usize; 22] = [400, 60, 12, 4, 4, 10, 8, 16, 12, 6, 8, 5, 14, 8, 8, 4, 8, 6, 2, 10, 0, 6];
+const CROWDED: [usize; 23] = [400, 60, 12, 4, 4, 10, 8, 16, 12, 6, 8, 5, 14, 24, 8, 8, 4, 8, 6, 2, 10, 0, 6];
 
 /// Small numbers, and beside them numbers with many divisors: more of their shares come out whole.
 const WHOLE_CAPACITIES: [&[f64]; 2] = [
@@ -259,9 +261,9 @@ impl Generator {
         }
         // So many steps of a hundred are some lines aimed at one place.
         let aimed = match self.profile {
-            Profile::Whole => 4,
-            Profile::Wrong => 12,
-            _ => 9,
+            Profile::Whole => 6,
+            Profile::Wrong => 20,
+            _ => 15,
         };
         if self.random.chance(aimed) {
             return self.aim();
@@ -322,6 +324,7 @@ impl Generator {
             Kind::Remaining => Call::Remaining { id: self.known_id() },
             Kind::Mean => Call::MeanInFlight { edge: self.edge(), until: self.until() },
             Kind::Rate => Call::Rate { id: self.known_id() },
+            Kind::Bottleneck => Call::Bottleneck { id: self.known_id() },
             Kind::Rounds => Call::Rounds,
             Kind::Contains => Call::Contains { id: self.known_id() },
             Kind::Now => Call::Now,
@@ -659,7 +662,7 @@ impl Generator {
                 _ => *until = bad,
             },
             Call::Edge { edge } => *edge = absent,
-            Call::Cancel { id } | Call::Rate { id } | Call::Remaining { id } | Call::Contains { id } => *id = 777,
+            Call::Cancel { id } | Call::Rate { id } | Call::Bottleneck { id } | Call::Remaining { id } | Call::Contains { id } => *id = 777,
             Call::TakeCompleted { places, .. } | Call::OwnersWithCompletions { places } => *places = self.random.below(2),
             _ => {}
         }

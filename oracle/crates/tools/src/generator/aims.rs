@@ -1,5 +1,7 @@
 //! A few lines each, aimed at places that random numbers do not meet: bytes left, time left and latency left at their
-//! tolerances, transfers that stall, questions that only read, the calls that drain before they change something, ties and clamps.
+//! tolerances, transfers that stall, questions that only read, who froze a transfer, the calls that drain before they change something, ties and clamps.
+
+mod bottlenecks;
 
 use super::*;
 use crate::tolerances::{eps_over, neighbours, whole_over_double, B};
@@ -20,6 +22,7 @@ impl Generator {
             Profile::Whole => &[Self::at_stall, Self::at_watch, Self::at_drain_time, Self::at_latency_left],
             _ => &[Self::at_stall, Self::at_watch, Self::at_bytes_left, Self::at_drain_time, Self::at_latency_left, Self::at_early_end, Self::at_change],
         };
+        let frozen: &[Aim] = &[Self::at_share, Self::at_equal_shares, Self::at_chain, Self::at_outside];
         let own: &[Aim] = match self.profile {
             Profile::Wild => &[Self::at_clamp],
             Profile::Ties => &[Self::at_equal_caps],
@@ -28,7 +31,7 @@ impl Generator {
         };
         // Whether somebody is done early is best asked where the floor is coarse.
         let early = self.session.sim.floor() >= 1e-6 && self.random.chance(30);
-        let aim = if early { Self::at_early_end } else { *self.random.pick(&[common, own].concat()) };
+        let aim = if early { Self::at_early_end } else { *self.random.pick(&[common, frozen, own].concat()) };
         if aim(self).is_none() {
             self.emit(Call::Now.to_string());
         }
@@ -52,6 +55,7 @@ impl Generator {
         self.maybe(Call::NextCompletionDelay, 50)?;
         self.aimed(Call::Advance { time: middle, places: AMPLE })?;
         self.aimed(Call::Widen { edge, amount: last - first })?;
+        self.maybe(Call::Bottleneck { id }, 30)?;
         match self.random.below(4) {
             0 => {
                 // Another beside it shows who takes part in a filling and in an estimate.
@@ -59,6 +63,7 @@ impl Generator {
                 let other = self.aimed_submit(bytes, 0.0, None, end, vec![edge])?;
                 self.maybe(Call::EstimateNew { bytes: 1.0, latency: 0.0, cap: None, path: vec![edge] }, 50)?;
                 self.aimed(Call::Rate { id: other })?;
+                self.aimed(Call::Bottleneck { id })?;
                 self.maybe(Call::Rounds, 50)?;
             }
             1 => {
@@ -85,6 +90,7 @@ impl Generator {
         let path = if self.random.chance(25) { vec![] } else { vec![edge] };
         let id = self.aimed_submit(bytes, latency, cap, clock, path.clone())?;
         self.time_left(id)?;
+        self.maybe(Call::Bottleneck { id }, 50)?;
         let (bytes, latency) = (*self.random.pick(&[0.0, 8.0]), *self.random.pick(&[-1.0, 0.0, 2.0]));
         self.maybe(Call::EstimateNew { bytes, latency, cap, path }, 30)?;
         let change = match self.random.below(3) {
@@ -250,10 +256,11 @@ impl Generator {
             _ => Call::Widen { edge, amount: self.amount() },
         };
         self.aimed(change)?;
-        match self.random.below(4) {
+        match self.random.below(5) {
             0 => self.aimed(Call::Dump),
             1 => self.aimed(Call::NextCompletionDelay),
-            2 => {
+            2 => self.aimed(Call::Bottleneck { id }),
+            3 => {
                 let time = self.time();
                 self.aimed(Call::Advance { time, places: AMPLE })?;
                 self.aimed(Call::Edge { edge })
@@ -331,10 +338,11 @@ impl Generator {
 
     /// What drains, fills or only looks, or nothing.
     fn question(&mut self, id: u32) -> Option<()> {
-        match self.random.below(4) {
+        match self.random.below(5) {
             0 => self.time_left(id),
             1 => self.aimed(Call::NextCompletionDelay),
             2 => self.aimed(Call::Rate { id }),
+            3 => self.aimed(Call::Bottleneck { id }),
             _ => Some(()),
         }
     }
