@@ -255,7 +255,7 @@ impl Generator {
 
     /// One line more, or a few.
     fn step(&mut self) {
-        if self.profile == Profile::Wrong && self.random.chance(70) {
+        if self.profile == Profile::Wrong && self.random.chance(76) {
             let line = self.wrong_line();
             return self.emit(line);
         }

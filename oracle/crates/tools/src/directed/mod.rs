@@ -1,5 +1,6 @@
 //! Scripts made for places that random calls do not find. Each is run while it is made, and what it is made for is asserted.
 
+mod bottlenecks;
 mod cases;
 mod fillings;
 mod floors;
@@ -32,6 +33,7 @@ pub fn scripts() -> Vec<(&'static str, Vec<String>)> {
         ("time-left", time_left::time_left()),
         ("watching", watching::watching()),
         ("floors", floors::floors()),
+        ("bottlenecks", bottlenecks::bottlenecks()),
         ("steps", steps::steps()),
         ("equal-caps", orders::equal_caps()),
         ("many-caps", orders::many_caps()),
