@@ -134,6 +134,78 @@ pub const FAULTS: &[Fault] = &[
         &[("let mut ts: Vec<", "for t in self.in_flight.values_mut() { if t.bytes_remaining <= DONE_EPSILON_BYTES { t.rate = 0.0; } }\n        let mut ts: Vec<")],
     ),
     fault("rounds_with_caps_only", "rounds won by a cap are not counted", &[("frozen[i] = true;\n                    unfrozen -= 1;", "frozen[i] = true; self.rounds -= 1;\n                    unfrozen -= 1;")]),
+    // ---- who froze a transfer, which the Rust has not: what records it ----
+    fault("by_first_edge", "an edge's round tells the first edge of the path", &[("t.frozen_by = Bottleneck::Edge(edge);", "t.frozen_by = Bottleneck::Edge(t.path[0]);")]),
+    fault("by_last_edge", "an edge's round tells the last edge of the path", &[("t.frozen_by = Bottleneck::Edge(edge);", "t.frozen_by = Bottleneck::Edge(t.path[t.path.len() - 1]);")]),
+    fault(
+        "by_losing_edge",
+        "an edge's round tells another edge of the path where there is one",
+        &[("t.frozen_by = Bottleneck::Edge(edge);", "t.frozen_by = Bottleneck::Edge(t.path.iter().copied().find(|e| *e != edge).unwrap_or(edge));")],
+    ),
+    fault(
+        "by_tie_high",
+        "of the path's edges with the same share the highest is told",
+        &[
+            (
+                "let members = std::mem::take(&mut on_edge[edge]);",
+                "let tied: Vec<bool> = (0..ne).map(|e| load[e] > 0 && residual[e] / load[e] as f64 == share).collect(); let members = std::mem::take(&mut on_edge[edge]);",
+            ),
+            ("t.frozen_by = Bottleneck::Edge(edge);", "t.frozen_by = Bottleneck::Edge(t.path.iter().copied().filter(|e| tied[*e]).max().unwrap_or(edge));"),
+        ],
+    ),
+    fault("by_round", "an edge's round tells the number of the round", &[("t.frozen_by = Bottleneck::Edge(edge);", "t.frozen_by = Bottleneck::Edge(self.rounds as usize - 1);")]),
+    fault(
+        "by_first_of_round",
+        "an edge's round tells it of the first alone",
+        &[
+            ("let members = std::mem::take(&mut on_edge[edge]);", "let mut first = true; let members = std::mem::take(&mut on_edge[edge]);"),
+            ("t.frozen_by = Bottleneck::Edge(edge);", "if std::mem::take(&mut first) { t.frozen_by = Bottleneck::Edge(edge); }"),
+        ],
+    ),
+    fault("by_edge_pending", "an edge's round tells nothing of who still pays its latency", &[("t.frozen_by = Bottleneck::Edge(edge);", "if t.latency_remaining <= 0.0 { t.frozen_by = Bottleneck::Edge(edge); }")]),
+    fault("by_edge_stalled", "an edge without capacity is not told", &[("t.frozen_by = Bottleneck::Edge(edge);", "if share > 0.0 { t.frozen_by = Bottleneck::Edge(edge); }")]),
+    fault("by_cap_at_rate", "whoever an edge's round freezes at exactly its cap is told the cap", &[("t.frozen_by = Bottleneck::Edge(edge);", "t.frozen_by = if t.rate_cap == Some(t.rate) { Bottleneck::Cap } else { Bottleneck::Edge(edge) };")]),
+    fault("by_edge_for_cap", "a cap's round tells the edge with the least share", &[("ts[i].frozen_by = Bottleneck::Cap;", "ts[i].frozen_by = best.map_or(Bottleneck::Cap, |(e, _)| Bottleneck::Edge(e));")]),
+    fault("by_path_for_cap", "a cap's round tells the first edge of the path", &[("ts[i].frozen_by = Bottleneck::Cap;", "ts[i].frozen_by = Bottleneck::Edge(ts[i].path[0]);")]),
+    fault("by_cap_untold", "a cap's round tells nothing", &[("ts[i].frozen_by = Bottleneck::Cap;", "")]),
+    fault("by_cap_zero", "a cap of 0 is not told", &[("ts[i].frozen_by = Bottleneck::Cap;", "if cap > 0.0 { ts[i].frozen_by = Bottleneck::Cap; }")]),
+    fault("by_cap_alone", "an empty path with a cap is told the cap", &[("t.rate = t.rate_cap.unwrap_or(f64::INFINITY);", "t.rate = t.rate_cap.unwrap_or(f64::INFINITY); if t.rate_cap.is_some() { t.frozen_by = Bottleneck::Cap; }")]),
+    fault("by_kept_outside", "who takes no part in a filling keeps who froze it", &[("self.in_flight.values_mut().for_each(|t| t.frozen_by = Bottleneck::Outside);", "")]),
+    fault("by_guess", "a submission begins with the first edge of its path", &[("frozen_by: Bottleneck::Outside,", "frozen_by: path.first().map_or(Bottleneck::Outside, |e| Bottleneck::Edge(*e)),")]),
+    fault(
+        "by_former",
+        "a submission begins with what the last transfer to leave had",
+        &[
+            ("pub struct Flows {\n", "pub struct Flows {\n    former: Option<Bottleneck>,\n"),
+            ("if self.in_flight.remove(id).is_some() {", "if let Some(t) = self.in_flight.remove(id) { self.former = Some(t.frozen_by);"),
+            ("self.in_flight.remove(id);", "self.former = self.in_flight.remove(id).map(|t| t.frozen_by);"),
+            ("frozen_by: Bottleneck::Outside,", "frozen_by: self.former.take().unwrap_or(Bottleneck::Outside),"),
+        ],
+    ),
+    fault("by_reset_by_drain", "a drain resets who froze whom", &[("self.last_drain = now;", "self.last_drain = now; self.in_flight.values_mut().for_each(|t| t.frozen_by = Bottleneck::Outside);")]),
+    fault(
+        "by_reset_by_quiet",
+        "the quiet advance resets who froze whom",
+        &[("self.now = now;\n            }\n            return Vec::new();", "self.now = now; self.in_flight.values_mut().for_each(|t| t.frozen_by = Bottleneck::Outside);\n            }\n            return Vec::new();")],
+    ),
+    fault(
+        "by_reset_by_cancel",
+        "cancel resets who froze the others",
+        &[("remove(id).is_some() {\n            self.rates_dirty = true;", "remove(id).is_some() {\n            self.rates_dirty = true; self.in_flight.values_mut().for_each(|t| t.frozen_by = Bottleneck::Outside);")],
+    ),
+    fault(
+        "by_reset_by_widen",
+        "widen resets who was frozen by its edge",
+        &[(
+            "capacity += bytes_per_sec;\n",
+            "capacity += bytes_per_sec; self.in_flight.values_mut().filter(|t| t.frozen_by == Bottleneck::Edge(edge)).for_each(|t| t.frozen_by = Bottleneck::Outside);\n",
+        )],
+    ),
+    fault(
+        "by_reset_at_b",
+        "whose bytes a drain brings to B or below loses who froze it",
+        &[("t.bytes_remaining -= moved;", "t.bytes_remaining -= moved; if t.bytes_remaining <= DONE_EPSILON_BYTES { t.frozen_by = Bottleneck::Outside; }")],
+    ),
     // ---- the floor, which is a constant in the Rust: what reads it ----
     fault("floor_added", "eps is the sum of the floor and what the clock adds", &[("EPSILON).max(self.floor)", "EPSILON) + self.floor")]),
     fault("floor_is_b", "B stands where the floor should", &[("EPSILON).max(self.floor)", "EPSILON).max(DONE_EPSILON_BYTES)")]),
@@ -193,6 +265,25 @@ pub const FAULTS: &[Fault] = &[
         "remaining answers as if it were settled",
         &[("let transfer = self.in_flight.get", "let mut settled = self.clone(); settled.settle(); let transfer = settled.in_flight.get")],
     ),
+    // ---- the question who froze a transfer: its accessor ----
+    fault("bottleneck_no_filling", "the question who froze a transfer does not fill", &[("self.ensure_rates();\n        self.in_flight.get(name_of(id).as_str()).map(bottleneck_of)", "self.in_flight.get(name_of(id).as_str()).map(bottleneck_of)")]),
+    fault(
+        "bottleneck_known_fills",
+        "that question fills for known ids alone",
+        &[("self.ensure_rates();\n        self.in_flight.get(name_of(id).as_str()).map(bottleneck_of)", "if self.contains(&name_of(id)) { self.ensure_rates(); }\n        self.in_flight.get(name_of(id).as_str()).map(bottleneck_of)")],
+    ),
+    fault(
+        "bottleneck_fills_anew",
+        "that question fills rates that are up to date",
+        &[("self.ensure_rates();\n        self.in_flight.get(name_of(id).as_str()).map(bottleneck_of)", "self.rates_dirty = true; self.ensure_rates();\n        self.in_flight.get(name_of(id).as_str()).map(bottleneck_of)")],
+    ),
+    fault(
+        "bottleneck_drains",
+        "that question drains first",
+        &[("self.ensure_rates();\n        self.in_flight.get(name_of(id).as_str()).map(bottleneck_of)", "self.drain_to(self.now); self.ensure_rates();\n        self.in_flight.get(name_of(id).as_str()).map(bottleneck_of)")],
+    ),
+    fault("bottleneck_of_bytes", "whoever has at most B bytes by now is told to have nobody", &[("Some(t.frozen_by)", "Some(if t.bytes_remaining <= DONE_EPSILON_BYTES { Bottleneck::Outside } else { t.frozen_by })")]),
+    fault("bottleneck_of_cap", "whoever runs at its cap is told the cap", &[("Some(t.frozen_by)", "Some(if t.rate_cap == Some(t.rate) && t.frozen_by != Bottleneck::Outside { Bottleneck::Cap } else { t.frozen_by })")]),
 ];
 
 /// Edits that were looked at and change nothing, with the reason. The program makes sure that nothing tells them apart.
