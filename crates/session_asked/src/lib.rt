@@ -131,6 +131,9 @@ fn read_short(name: &[u8], line: &[u8], at: usize) -> Ask {
     if check::same(name, b"rate") {
         return Ask::Make(Call::Rate(id));
     }
+    if check::same(name, b"bottleneck") {
+        return Ask::Make(Call::Bottleneck(id));
+    }
     if check::same(name, b"contains") {
         return Ask::Make(Call::Contains(id));
     }

@@ -6,12 +6,14 @@ use rules::Clock;
 use rules::Completion;
 use rules::Edge;
 use rules::Flows;
+use rules::Limit;
 use rules::NextDone;
 use rules::Route;
 use rules::Tally;
 use rules::Tolerance;
 use rules::Totals;
 use rules::Transfer;
+use session_fields::limit;
 use session_fields::named;
 use session_fields::room;
 use session_fields::spaced;
@@ -162,13 +164,14 @@ fn slot(page: &mut [u8; 65536], at: usize, number: usize, t: Transfer) -> usize
     }
     let owner = t.owner;
     let path = t.path;
+    let limit = t.limit;
     let next = room(page, at);
     let next = named(page, next, b"slot", number as u64);
     let next = spaced_short(page, next, t.id);
     let next = spaced_owner(page, next, owner);
     let next = remains(page, next, t);
     let next = route(page, next, path);
-    put_text(page, next, b"\n")
+    limited_by(page, next, limit)
 }
 
 // The doubles of a transfer.
@@ -192,6 +195,16 @@ fn cap_field(page: &mut [u8; 65536], at: usize, cap: Cap) -> usize
         Cap::AtMost(limit) => spaced_double(page, at, limit),
         Cap::Uncapped => put_text(page, at, b" -"),
     }
+}
+
+// The end of a slot's line: who froze the transfer at the last filling.
+fn limited_by(page: &mut [u8; 65536], at: usize, by: Limit) -> usize
+    requires { ⌜ at ≤ 60200 ⌝ }
+    ensures { λ r. ⌜ r ≤ 60300 ⌝ }
+{
+    let next = put_text(page, at, b" by ");
+    let next = limit(page, next, by);
+    put_text(page, next, b"\n")
 }
 
 // A path with its length in front.

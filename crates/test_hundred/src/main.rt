@@ -5,6 +5,7 @@ use flows::Cap;
 use flows::Delay;
 use flows::EdgeRead;
 use flows::Flows;
+use flows::Limit;
 use flows::Outcome;
 use flows::Owner;
 ghost use Prim.Native.Nat.{_<_};
@@ -18,6 +19,7 @@ enum Kind {
     SubmitCapped,
     NextCompletionDelay,
     Rate,
+    Bottleneck,
     EstimateNew,
     EstimateNewCapped,
     Settle,
@@ -54,7 +56,7 @@ fn main() {
     let mut flows = Flows::new();
     let mut counts = none();
     let mut n: u32 = 0;
-    while n < 2800 {
+    while n < 2900 {
         let kind = nth(n / 100);
         let made = called(flows, kind, n % 100, &mut lent);
         let answer = made.answer;
@@ -87,6 +89,7 @@ fn called(flows: Flows, kind: Kind, i: u32, lent: &mut [u32; 768]) -> Outcome
         Kind::TakeCompleted => flows::take_completed(flows, Owner::Worker(i), lent),
         Kind::NextCompletionDelay => flows::next_completion_delay(flows),
         Kind::Rate => flows::rate(flows, 2 * i),
+        Kind::Bottleneck => flows::bottleneck(flows, 2 * i),
         Kind::Settle => flows::settle(flows),
         _ => Outcome {
             answer: asked(flows, kind, i, lent),
@@ -237,6 +240,7 @@ fn number(answer: Answer) -> u64 {
         Answer::Refused(n) => n as u64,
         Answer::Value(x) => doubles::bits_of(x),
         Answer::Due(d) => delay(d),
+        Answer::Limited(l) => limit(l),
         _ => 0,
     }
 }
@@ -245,6 +249,14 @@ fn delay(d: Delay) -> u64 {
     match d {
         Delay::After(x) => doubles::bits_of(x),
         Delay::Never => 0,
+    }
+}
+
+// The number of the edge, if it is one.
+fn limit(l: Limit) -> u64 {
+    match l {
+        Limit::AtEdge(e) => e as u64,
+        _ => 0,
     }
 }
 
@@ -258,27 +270,28 @@ fn nth(n: u32) -> Kind {
         3 => Kind::SubmitCapped,
         4 => Kind::NextCompletionDelay,
         5 => Kind::Rate,
-        6 => Kind::EstimateNew,
-        7 => Kind::EstimateNewCapped,
-        8 => Kind::Settle,
-        9 => Kind::Remaining,
-        10 => Kind::Advance,
-        11 => Kind::Cancel,
-        12 => Kind::OwnersWithCompletions,
-        13 => Kind::TakeCompleted,
-        14 => Kind::MeanInFlight,
-        15 => Kind::Edge,
-        16 => Kind::Contains,
-        17 => Kind::Now,
-        18 => Kind::Rounds,
-        19 => Kind::NumEdges,
-        20 => Kind::NumInFlight,
-        21 => Kind::NumUncollected,
-        22 => Kind::PeakInFlight,
-        23 => Kind::Totals,
-        24 => Kind::SubmittedCounts,
-        25 => Kind::CompletedCounts,
-        26 => Kind::CancelledCounts,
+        6 => Kind::Bottleneck,
+        7 => Kind::EstimateNew,
+        8 => Kind::EstimateNewCapped,
+        9 => Kind::Settle,
+        10 => Kind::Remaining,
+        11 => Kind::Advance,
+        12 => Kind::Cancel,
+        13 => Kind::OwnersWithCompletions,
+        14 => Kind::TakeCompleted,
+        15 => Kind::MeanInFlight,
+        16 => Kind::Edge,
+        17 => Kind::Contains,
+        18 => Kind::Now,
+        19 => Kind::Rounds,
+        20 => Kind::NumEdges,
+        21 => Kind::NumInFlight,
+        22 => Kind::NumUncollected,
+        23 => Kind::PeakInFlight,
+        24 => Kind::Totals,
+        25 => Kind::SubmittedCounts,
+        26 => Kind::CompletedCounts,
+        27 => Kind::CancelledCounts,
         _ => Kind::BytesSubmitted,
     }
 }
@@ -292,6 +305,7 @@ fn name(kind: Kind) -> bool {
         Kind::SubmitCapped => io::write_all(1, b"submit_capped"),
         Kind::NextCompletionDelay => io::write_all(1, b"next_completion_delay"),
         Kind::Rate => io::write_all(1, b"rate"),
+        Kind::Bottleneck => io::write_all(1, b"bottleneck"),
         Kind::EstimateNew => io::write_all(1, b"estimate_new"),
         Kind::EstimateNewCapped => io::write_all(1, b"estimate_new_capped"),
         Kind::Settle => io::write_all(1, b"settle"),
