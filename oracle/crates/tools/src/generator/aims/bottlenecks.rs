@@ -164,23 +164,28 @@ mod tests {
         assert_eq!(asked(10_000, tied), ALL);
     }
 
-    /// A cap's round leaves exactly the cap, and the edge that is told lies on the path.
-    #[test]
-    fn who_froze_fits_the_transfer() {
-        for (name, profile) in PROFILES {
-            let mut session = Session::new(copies::patched, false);
-            for line in script(5, 6000, profile) {
-                session.answer_line(&read_line(&line));
-                for t in session.sim.transfers() {
-                    let fits = match t.by {
-                        Some(Bottleneck::Cap) => t.cap == Some(t.rate) && !t.path.is_empty(),
-                        Some(Bottleneck::Edge(edge)) => t.path.contains(&edge) && t.cap.is_none_or(|cap| t.rate <= cap),
-                        Some(Bottleneck::Outside) => true,
-                        None => false,
-                    };
-                    assert!(fits, "{} behind {line} in {name}", t.id);
-                }
-            }
+    /// Exactly the cap, or an edge of the path that is used up but for its slack, with nobody on it faster by more than that.
+    fn explained(t: &TransferView, session: &Session) -> bool {
+        match t.by {
+            Some(Bottleneck::Cap) => t.cap == Some(t.rate) && !t.path.is_empty(),
+            Some(Bottleneck::Edge(edge)) => t.path.contains(&edge) && used_up(edge, t.rate, session),
+            Some(Bottleneck::Outside) => true,
+            None => false,
         }
+    }
+
+    /// By all who took part, each crossing counted. The sum here rounds, so it has twice the slack.
+    fn used_up(edge: usize, rate: f64, session: &Session) -> bool {
+        let all = session.sim.transfers();
+        let taking_part = all.iter().filter(|t| t.by != Some(Bottleneck::Outside));
+        let rates: Vec<f64> = taking_part.flat_map(|t| t.path.iter().filter(|e| **e == edge).map(|_| t.rate)).collect();
+        let capacity = session.sim.edge(edge).capacity;
+        let slack = (rates.len() + 1) as f64 * (capacity * f64::EPSILON + LEAST);
+        rates.iter().sum::<f64>() >= capacity - 2.0 * slack && rates.iter().all(|other| *other <= rate + slack)
+    }
+
+    #[test]
+    fn what_is_told_explains_the_rate() {
+        assert_eq!(asked(20_000, |t, session| !explained(t, session)), [""; 0]);
     }
 }
