@@ -118,7 +118,7 @@ fn stays(b: &mut Book) {
     begin(b, COARSEST, "the floor stays through every call");
     let calls = [
         "add_edge 10", "add_edge 3", "widen 1 1", "submit 1 0 0 100 0 - 0 1 0", "submit 2 1 0 12 0.5 4 0 2 0 1", "submit 3 2 0 5 0 - 1 0", "advance 1 768", "next_completion_delay",
-        "advance 1.5 768", "settle", "remaining 1", "remaining 9", "rate 1", "rate 9", "rounds", "estimate_new 5 0 - 1 0", "mean_in_flight 0 1", "contains 1", "now", "edge 0", "counts",
+        "advance 1.5 768", "settle", "remaining 1", "remaining 9", "rate 1", "rate 9", "bottleneck 1", "bottleneck 9", "rounds", "estimate_new 5 0 - 1 0", "mean_in_flight 0 1", "contains 1", "now", "edge 0", "counts",
         "run_until 4", "cancel 9", "cancel 1", "owners_with_completions 512", "take_completed 1 0 256", "submit 4 0 3 7 0 - 5 1 1", "finish", "take_completed 0 3 0", "take_completed 0 9 256",
         "advance 3 768", "submit 4 0 3 7 0 - 1 1 1", "nonsense", "new 0",
     ];
@@ -330,10 +330,13 @@ fn same_rates(b: &mut Book) {
         "add_edge 10", "add_edge 7", "add_edge 0", "submit 1 0 0 1000 0 - 0 1 0", "submit 2 1 0 900 0.0004 2.5 0 2 0 1", "submit 3 2 0 800 0 - 0.25 3 0 1 0", "submit 4 0 1 70 0 - 0.5 1 1",
         "submit 5 0 2 5 0.0009 - 0.5 1 2", "submit 6 0 2 5 1 3 0.5 0",
     ];
-    let asked = ["rate 1", "rate 2", "rate 3", "rate 4", "rate 5", "rate 6", "rounds", "estimate_new 8 0.0004 - 2 0 1", "estimate_new 8 0.0004 3 0"];
+    let asked = [
+        "rate 1", "rate 2", "rate 3", "rate 4", "rate 5", "rate 6", "rounds", "bottleneck 1", "bottleneck 2", "bottleneck 3", "bottleneck 4", "bottleneck 5", "bottleneck 6",
+        "estimate_new 8 0.0004 - 2 0 1", "estimate_new 8 0.0004 3 0",
+    ];
     let mut first: Option<Vec<String>> = None;
     for floor in [F, 1e-4, COARSEST] {
-        begin(b, floor, &format!("rates and rounds with a floor of {floor}"));
+        begin(b, floor, &format!("rates, rounds and who froze whom with a floor of {floor}"));
         let mut told = Vec::new();
         for (i, call) in plan.iter().enumerate() {
             b.say(call);

@@ -134,7 +134,7 @@ fn before_a_filling(b: &mut Book) {
 
 /// A question that fills is enough where the last drain is the clock's, and not where it is not.
 fn filled_without_a_drain(b: &mut Book) {
-    for question in ["next_completion_delay", "rate 2", "rate 9"] {
+    for question in ["next_completion_delay", "rate 2", "rate 9", "bottleneck 2", "bottleneck 9"] {
         b.begin(&format!("{question} brings rates up to date and drains nobody"));
         b.all(&["add_edge 10", "submit 1 0 0 100 0 - 0 1 0", "submit 2 1 0 100 0 - 4 1 0"]);
         behind(b, 1, &value(6.0));
