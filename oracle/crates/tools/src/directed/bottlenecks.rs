@@ -105,7 +105,7 @@ fn caps_around_the_share(b: &mut Book) {
             transfers[0].0 = Some(cap);
             plan(b, &format!("a cap {name} the share of {count} on {capacity}"), &[capacity], &transfers);
             let mut wanted = vec!["edge 0"; count];
-            wanted[0] = ["cap", "edge 0", "edge 0"][i];
+            wanted[0] = [CAP, "edge 0", "edge 0"][i];
             frozen_by(b, &wanted);
             b.expect("rate 0", &value(cap.min(share)));
             b.expect("rounds", if i == 0 && count > 1 { "number 2" } else { "number 1" });
@@ -166,9 +166,9 @@ fn round_after_round(b: &mut Book) {
     plan(b, "a chain of four edges, a round each", &[20.0, 2.0, 5.0, 9.0], &transfers);
     told(b, &["edge 1", "edge 2", "edge 3", "edge 0"], &[2.0, 3.0, 6.0, 14.0], 4);
     // The cap of 1 goes first; then edge 1 has 3 for one, and edge 0 has 8 - 1 - 3 for the last.
-    plan(b, "a cap between the rounds of edges", &[8.0, 4.0], &[(Some(1.0), &[0, 1]), (None, &[1, 0]), (Some(5.0), &[0])]);
+    plan(b, "a cap goes before two edges", &[8.0, 4.0], &[(Some(1.0), &[0, 1]), (None, &[1, 0]), (Some(5.0), &[0])]);
     told(b, &[CAP, "edge 1", "edge 0"], &[1.0, 3.0, 4.0], 3);
-    plan(b, "a cap that only a later share exceeds", &[8.0, 2.0], &[(None, &[1, 0]), (Some(5.0), &[0]), (None, &[0])]);
+    plan(b, "a cap above every share, and then one between the rounds of two edges", &[8.0, 2.0], &[(None, &[1, 0]), (Some(5.0), &[0]), (None, &[0])]);
     // 2 on edge 1; then 6/2 on edge 0, which is below the cap of 5.
     told(b, &["edge 1", "edge 0", "edge 0"], &[2.0, 3.0, 3.0], 2);
     b.expect("widen 0 6", "done");

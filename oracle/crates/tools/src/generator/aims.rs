@@ -57,15 +57,7 @@ impl Generator {
         self.aimed(Call::Widen { edge, amount: last - first })?;
         self.maybe(Call::Bottleneck { id }, 30)?;
         match self.random.below(4) {
-            0 => {
-                // Another beside it shows who takes part in a filling and in an estimate.
-                let bytes = self.some_bytes();
-                let other = self.aimed_submit(bytes, 0.0, None, end, vec![edge])?;
-                self.maybe(Call::EstimateNew { bytes: 1.0, latency: 0.0, cap: None, path: vec![edge] }, 50)?;
-                self.aimed(Call::Rate { id: other })?;
-                self.aimed(Call::Bottleneck { id })?;
-                self.maybe(Call::Rounds, 50)?;
-            }
+            0 => self.with_another(id, edge, end)?,
             1 => {
                 self.aimed(Call::NextCompletionDelay)?;
                 self.aimed(Call::Advance { time: end, places: AMPLE })?;
@@ -78,6 +70,16 @@ impl Generator {
         }
         self.aimed(Call::Advance { time: end, places: AMPLE })?;
         self.maybe(Call::Contains { id }, 30)
+    }
+
+    /// Another beside it shows who takes part in a filling and in an estimate.
+    fn with_another(&mut self, id: u32, edge: u32, time: f64) -> Option<()> {
+        let bytes = self.some_bytes();
+        let other = self.aimed_submit(bytes, 0.0, None, time, vec![edge])?;
+        self.maybe(Call::EstimateNew { bytes: 1.0, latency: 0.0, cap: None, path: vec![edge] }, 50)?;
+        self.aimed(Call::Rate { id: other })?;
+        self.aimed(Call::Bottleneck { id })?;
+        self.maybe(Call::Rounds, 50)
     }
 
     /// A transfer that stalls or nearly so, and how long it takes: over a path or not, at no rate or the least, with no bytes or all; then plugged in, unplugged or gone.
