@@ -51,7 +51,7 @@ Stands f = f .clock .«rates_dirty» ≡ false → AsFilled f
 on : {f g : Flows} → map standing (g .«in_flight») ≡ map standing (f .«in_flight») → map (λ e. e .capacity) (g .edges) ≡ map (λ e. e .capacity) (f .edges) → g .clock .«rates_dirty» ≡ f .clock .«rates_dirty» → Stands f → Stands g
 on slots capacities stale stands fresh =
     let was = stands (sym stale ∙ fresh) in
-    record { last = was .last; sound = was .sound; slots = slots ∙ was .slots; capacities = capacities ∙ was .capacities }
+    record { filled = was .filled; sound = was .sound; slots = slots ∙ was .slots; capacities = capacities ∙ was .capacities }
 
 -- and where rates are made stale there is nothing to show
 stale : (f : Flows) → Stands (made-stale f)
@@ -63,7 +63,7 @@ unfolding ensure-rates with-rates with-edge-load with-in-flight with-clock
 up-to-date {f} inv stands = go (f .clock .«rates_dirty») refl
   where
     go : (b : Bool) → f .clock .«rates_dirty» ≡ b → AsFilled (cond b (with-rates (recompute-rates (path-of f) (f .edges) (f .«in_flight»)) f) f)
-    go true e = record { last = f; sound = inv; slots = refl; capacities = refl }
+    go true e = record { filled = f; sound = inv; slots = refl; capacities = refl }
     go false e = stands e
 
 time-passed : (to : Float) (f : Flows) → Stands f → Stands (pass-time to f)
@@ -154,11 +154,11 @@ run-stands f (t ∷ turns) h inv stands =
 -- a fresh simulator is as its filling leaves it, for nobody is in flight
 blank : AsFilled fresh
 unfolding everything
-blank = record { last = fresh; sound = fresh-keeps; slots = refl; capacities = refl }
+blank = record { filled = fresh; sound = fresh-keeps; slots = refl; capacities = refl }
 
 first : (floor : Float) → AsFilled (with-floor floor .flows)
 unfolding with-floor with-tolerance
-first floor = refused-or (λ (o : Outcome). AsFilled (o .flows)) _ (refused fresh) _ (λ n. blank) (λ none. record { last = blank .last; sound = blank .sound; slots = blank .slots; capacities = blank .capacities })
+first floor = refused-or (λ (o : Outcome). AsFilled (o .flows)) _ (refused fresh) _ (λ n. blank) (λ none. record { filled = blank .filled; sound = blank .sound; slots = blank .slots; capacities = blank .capacities })
 
 pub always-as-filled : AlwaysAsFilled
 always-as-filled floor turns held t =

@@ -44,7 +44,7 @@ unfoldable pub lone-rate : Cap → Float
 lone-rate (AtMost c) = c
 lone-rate Uncapped = infinity
 
--- A transfer that takes part starts unfrozen, unless its path is empty and its rate is known at once. (01, Filling)
+-- A transfer that takes part starts unfrozen, unless its path is empty: then its rate is known at once, and no round limits it, be it at its cap. (01, Filling; 02, P4)
 unfoldable pub entered : List ℕ → Transfer → Seat
 entered [] t = record { transfer = with-rate (lone-rate (t .«rate_cap»)) Nowhere t; unfrozen = false }
 entered (e ∷ path) t = record { transfer = t; unfrozen = true }

@@ -72,12 +72,12 @@ standing t = record { taken = t .taken; id = t .id; owner = t .owner; path = t .
 
 -- A simulator's slots and capacities are as a filling left them, that of a simulator with the invariant. (02, P4)
 pub record AsFilled (f : Flows) : Type 0 where
-  pub last : Flows
-  pub sound : Invariant last
-  pub slots : map standing (f .«in_flight») ≡ map standing (rated last)
-  pub capacities : map (λ e. e .capacity) (f .edges) ≡ map (λ e. e .capacity) (last .edges)
+  pub filled : Flows
+  pub sound : Invariant filled
+  pub slots : map standing (f .«in_flight») ≡ map standing (rated filled)
+  pub capacities : map (λ e. e .capacity) (f .edges) ≡ map (λ e. e .capacity) (filled .edges)
 
--- What `rate` and `bottleneck` read, rates being up to date, is what the last filling left, whatever was drained since: so the limit that is told is one that `SoundExplained` speaks of. (02, P4)
+-- What `rate` and `bottleneck` read, rates being up to date, is what a filling left, whatever was drained since: so the limit that is told is one that `SoundExplained` speaks of. (02, P4)
 abbrev pub AlwaysAsFilled : Type 0
 AlwaysAsFilled = (floor : Float) (turns : List Turn) → T (fits binary64 floor) → T (all typed turns) → AsFilled (ensure-rates (run-with-floor floor turns))
 
@@ -184,7 +184,7 @@ but-for-floor f =
     with-tolerance default-tolerance
     (with-clock (record { now = f .clock .now; «last_drain» = f .clock .«last_drain»; «rates_dirty» = f .clock .«rates_dirty»; «next_done_at» = Nobody; rounds = f .clock .rounds }) f)
 
--- Rates do not depend on the floor: two such simulators, brought up to date or drained to a time, are such again, and so have equal rates and rounds. (02, P5)
+-- Rates do not depend on the floor: two such simulators, brought up to date or drained to a time, are such again, and so have equal rates, limits and rounds. (02, P4 and P5)
 pub record RatesWithoutFloor : Type 0 where
   pub up-to-date : (f g : Flows) → but-for-floor f ≡ but-for-floor g → but-for-floor (ensure-rates f) ≡ but-for-floor (ensure-rates g)
   pub drained : (to : Float) (f g : Flows) → but-for-floor f ≡ but-for-floor g → but-for-floor (drain-to to f) ≡ but-for-floor (drain-to to g)
