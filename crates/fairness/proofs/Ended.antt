@@ -20,7 +20,7 @@ use Rattle.rules.specs.declared.Seat.{Seat}
 use Rattle.rules.specs.Lists.{count, crossings}
 use Rattle.rules.specs.Records.{free}
 use Rattle.rules.specs.Filling.{Filling, no-seat, seat-at}
-use Rattle.rules.specs.Fair.{in-demand, C, k, slack-of, carried, Fair, Explains, Limits}
+use Rattle.rules.specs.Fair.{in-demand, C, k, slack-of, carried, Fair, Limits}
 use Rattle.fairness.proofs.Account.{good-sum, full-floor}
 use Rattle.fairness.proofs.Sums.{given, k-splits, carried-is, spent-under}
 use Rattle.fairness.proofs.Verdicts.{AtOwnCap}

@@ -1,5 +1,5 @@
 -- Whoever the rounds freeze, one of them does, and what it gives stays through the rest. Assumes nothing.
-use mathlib.Core.Path.{_≡_, refl, sym, _∙_}
+use mathlib.Core.Path.{_≡_, refl, sym, ap, subst, _∙_}
 use mathlib.Core.Bool.{Bool, true, false, cond, true≢false}
 use mathlib.Core.List.{List}
 use Prim.Native.Nat.{ℕ, zero, suc}
@@ -22,6 +22,11 @@ module _ (path : Transfer → List ℕ) where
       go : (b : Bool) → seat-at (rounds-until path n (round path f)) i ≡ seat-at f i → seat-at (cond b f (rounds-until path n (round path f))) i ≡ seat-at f i
       go true rec = refl
       go false rec = rec
+
+  -- a round later
+  one-on : (n : ℕ) (f : Filling) → eqb (num-unfrozen f) 0 ≡ false → rounds-until path (suc n) f ≡ rounds-until path n (round path f)
+  unfolding rounds-until
+  one-on n f e = rw e refl
 
   freeze-is : (v : Verdict) (i : ℕ) (s : Seat) → freezes path v i s ≡ true → freeze path v i s ≡ frozen-at v s
   unfolding freeze
@@ -48,11 +53,16 @@ module _ (path : Transfer → List ℕ) where
       by : eqb (num-unfrozen f) 0 ≡ false → seat-at (rounds-until path n (round path f)) i .unfrozen ≡ false → Rest → (b : Bool) → freezes path (verdict-of path f) i (seat-at f i) ≡ b → Frozen (suc n) f i
       by e over rest true h =
           let now : seat-at (round path f) i ≡ frozen-at (verdict-of path f) (seat-at f i) = round-seat path f i ∙ freeze-is (verdict-of path f) i (seat-at f i) h in
-          record { before = 0; froze = h; left = rw e (stays-frozen n (round path f) i (rw now refl) ∙ now) }
+          record { before = 0; froze = h; left = ap (λ (g : Filling). seat-at g i) (one-on n f e) ∙ stays-frozen n (round path f) i (rw now refl) ∙ now }
       by e over rest false h =
           let same : seat-at (round path f) i ≡ seat-at f i = round-seat path f i ∙ not-frozen (verdict-of path f) i (seat-at f i) h in
           let r = rest (rw same u) over in
-          record { before = suc (r .before); froze = rw e (r .froze); left = rw e (r .left) }
+          let back = sym (one-on (r .before) f e) in
+          record {
+            before = suc (r .before);
+            froze = subst (λ (g : Filling). freezes path (verdict-of path g) i (seat-at g i) ≡ true) back (r .froze);
+            left = ap (λ (g : Filling). seat-at g i) (one-on n f e) ∙ r .left ∙ ap (λ (g : Filling). frozen-at (verdict-of path g) (seat-at g i)) back;
+          }
 
       go : (b : Bool) → eqb (num-unfrozen f) 0 ≡ b → seat-at (cond b f (rounds-until path n (round path f))) i .unfrozen ≡ false → Rest → Frozen (suc n) f i
       go true e over rest = absurd (true≢false (sym u ∙ over))

@@ -10,6 +10,8 @@ use lib.Ieee.{Float, nan}
 use lib.ListN.{length, getD, take, drop, set, length-set, drop-of-length-le}
 use lib.Seq.{take-all, drop-nil, drop-drop, drop-set-lt, getD-drop, ext-getD}
 use borrow.Author.Tests.{ltb-true, ltb-false}
+use Rattle.rules.specs.declared.Limit.{Limit}
+use Rattle.rules.specs.declared.Transfer.{Transfer}
 use Rattle.rules.specs.declared.Seat.{Seat}
 use Rattle.rules.specs.declared.Verdict.{Verdict}
 use Rattle.rules.specs.Lists.{count, sum, map-from, crossings, at-each-crossing, times}
@@ -52,6 +54,11 @@ module _ (v : Verdict) (i : ℕ) (s : Seat) where
   pub freeze-when : (b : Bool) → freezes own-path v i s ≡ b → freeze own-path v i s ≡ cond b (record { transfer = with-rate (rate-by v) (limit-by v) (s .transfer); unfrozen = false }) s
   unfolding freeze
   freeze-when b f = ap (λ (z : Bool). cond z (record { transfer = with-rate (rate-by v) (limit-by v) (s .transfer); unfrozen = false }) s) f
+
+  -- a seat that is given the verdict's rate and limit is the frozen one
+  pub frozen-is : (t : Transfer) (rate : Float) (limit : Limit) → freezes own-path v i s ≡ true → rate ≡ rate-by v → limit ≡ limit-by v → t ≡ with-rate rate limit (s .transfer)
+      → _≡_ {A = Seat} (record { transfer = t; unfrozen = false }) (freeze own-path v i s)
+  frozen-is t rate limit f r l e = rw (freeze-when true f, e, r, l) refl
 
   -- The crossings of edge e that the verdict takes off with this seat.
   abbrev pub gone : ℕ → ℕ

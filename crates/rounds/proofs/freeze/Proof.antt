@@ -4,7 +4,7 @@ use mathlib.Core.Bool.{true, false}
 use Rattle.rules.specs.Records.{own-path}
 use Rattle.rules.specs.Filling.{names}
 use Rattle.paths.proofs.Routes.{known-route, route-length}
-use Rattle.rounds.proofs.Freezing.{freezes-when, freezes-not, freeze-when}
+use Rattle.rounds.proofs.Freezing.{freezes-when, freezes-not, freeze-when, frozen-is}
 use native.Mathlib.Omega.{arith}
 use borrow.Author.Needs.{needs}
 use Rattle.rounds.proofs.freeze.Statement.{statement}
@@ -56,10 +56,12 @@ same-length-2 c = search needs
 returns : tie.Need-returns
 unfolding own-path
 returns c =
-    let f = freezes-when (c .before .before .before .before .before .before .before .before .before .before .before .before .before .before .before .before .before .before .before .before .before .before .args .v) (c .before .before .before .before .before .before .before .before .before .before .before .before .before .before .before .before .before .before .before .before .before .before .args .i) (c .before .before .before .before .before .before .before .before .before .before .before .before .before .before .before .before .before .before .before .before .before .before .args .s) true (c .before .before .before .before .before .before .before .before .before .before .before .before .before .before .before .before .before .before .before .if1 .taken) (sym (c .before .before .before .before .before .before .before .before .before .before .before .before .before .before .names .ensures) ∙ c .before .before .before .before .before .before .before .before .before .before .before .before .before .if2 .taken) in (
-      rw (freeze-when (c .before .before .before .before .before .before .before .before .before .before .before .before .before .before .before .before .before .before .before .before .before .before .args .v) (c .before .before .before .before .before .before .before .before .before .before .before .before .before .before .before .before .before .before .before .before .before .before .args .i) (c .before .before .before .before .before .before .before .before .before .before .before .before .before .before .before .before .before .before .before .before .before .before .args .s) true f, ← c .before .before .before .before .before .before .before .before .before .before .before .before .rate-by .ensures, ← c .before .limit-by .ensures, c .with-rate .ensures),
+    let start = c .before .before .before .before .before .before .before .before .before .before .before .before .before .before .before .before .before .before .before .before .before .before .args in
+    let f = freezes-when (start .v) (start .i) (start .s) true (c .before .before .before .before .before .before .before .before .before .before .before .before .before .before .before .before .before .before .before .if1 .taken) (sym (c .before .before .before .before .before .before .before .before .before .before .before .before .before .before .names .ensures) ∙ c .before .before .before .before .before .before .before .before .before .before .before .before .before .if2 .taken) in
+    let rate = c .before .before .before .before .before .before .before .before .before .before .before .before .rate-by .ensures in (
+      frozen-is (start .v) (start .i) (start .s) (c .with-rate .result) _ _ f rate (c .before .limit-by .ensures) (c .with-rate .ensures),
       (
-        rw (f, c .before .before .before .before .before .before .before .before .before .spend .ensures, ← c .before .before .before .before .before .before .before .before .before .before .before .before .rate-by .ensures),
+        rw (f, c .before .before .before .before .before .before .before .before .before .spend .ensures, ← rate),
         rw (f, c .before .before .before .before .lower .ensures),
       ),
     )
