@@ -24,7 +24,7 @@ use Rattle.rules.specs.declared.Flows.{Flows}
 use Rattle.rules.specs.Lists.{count, sum, crossings}
 use Rattle.rules.specs.Records.{blank-edge, free, path-of}
 use Rattle.rules.specs.Clock.{crossings-by}
-use Rattle.rules.specs.Filling.{takes-part, rate-by, limit-by, seat-at, start, verdict-of, freezes, rounds-until, recompute-rates}
+use Rattle.rules.specs.Filling.{takes-part, Filling, rate-by, limit-by, seat-at, start, verdict-of, freezes, rounds-until, recompute-rates}
 
 -- The exact capacity of edge e.
 unfoldable pub C : List Edge → ℕ → ℕ
@@ -87,16 +87,20 @@ module _ (path : Transfer → List ℕ) where
     -- and the others have none
     pub others : (i : ℕ) → let t = getD ts i free in in-demand t ≡ false → t .limit ≡ Nowhere
 
-  -- In the words of the request, which do not ask for the round: everybody runs at exactly its cap, or crosses an edge that explains it. (02, P4)
+  -- As the request has it, which does not ask for the round: everybody has its own cap as its rate, or there is an edge that explains it. (02, P4)
   abbrev pub NobodySlower : List Edge → List Transfer → Type 0
   NobodySlower edges ts = (i : ℕ) → let t = getD ts i free in T (in-demand t) → (t .«rate_cap» ≡ AtMost (t .rate)) ⊎ ((e : ℕ) × Explains edges ts i e)
+
+  -- A filling after n rounds, fewer where they are over before.
+  abbrev pub after-rounds : List Edge → List Transfer → ℕ → Filling
+  after-rounds edges slots n = rounds-until path n (start path edges slots)
 
   -- The round that froze the transfer in slot i of a filling: after so many rounds it still waited, and the verdict of the next froze it, at its rate and with its limit. (02, P4)
   pub record FrozenInRound (edges : List Edge) (slots : List Transfer) (i : ℕ) : Type 0 where
     pub before : ℕ
-    pub froze : let g = rounds-until path before (start path edges slots) in freezes path (verdict-of path g) i (seat-at g i) ≡ true
-    pub rate : seat-at (recompute-rates path edges slots) i .transfer .rate ≡ rate-by (verdict-of path (rounds-until path before (start path edges slots)))
-    pub limit : seat-at (recompute-rates path edges slots) i .transfer .limit ≡ limit-by (verdict-of path (rounds-until path before (start path edges slots)))
+    pub froze : let g = after-rounds edges slots before in freezes path (verdict-of path g) i (seat-at g i) ≡ true
+    pub rate : seat-at (recompute-rates path edges slots) i .transfer .rate ≡ rate-by (verdict-of path (after-rounds edges slots before))
+    pub limit : seat-at (recompute-rates path edges slots) i .transfer .limit ≡ limit-by (verdict-of path (after-rounds edges slots before))
 
 -- ---- a simulator's filling
 
@@ -113,6 +117,6 @@ pub record ExplainedFilling (f : Flows) : Type 0 where
   pub explained : Explained (path-of f) (f .edges) (rated f)
   pub in-its-round : (i : ℕ) → T (in-demand (path-of f) (getD (rated f) i free)) → FrozenInRound (path-of f) (f .edges) (f .«in_flight») i
 
--- So nobody is slower than its cap or a real bottleneck explains. (02, P4)
+-- So every rate is explained, by its cap or by some edge. (02, P4)
 abbrev pub NobodySlowerFilling : Flows → Type 0
 NobodySlowerFilling f = NobodySlower (path-of f) (f .edges) (rated f)

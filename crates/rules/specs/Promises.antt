@@ -62,7 +62,7 @@ AlwaysFair = (floor : Float) (turns : List Turn) → T (fits binary64 floor) →
 abbrev pub AlwaysExplained : Type 0
 AlwaysExplained = (floor : Float) (turns : List Turn) → T (fits binary64 floor) → T (all typed turns) → WhereverFilled ExplainedFilling (run-with-floor floor turns)
 
--- And so, in the request's own words: nobody is slower than its cap or a real bottleneck explains. (02, P4)
+-- And so, as the request has it: every rate is explained by its cap or by some edge. (02, P4)
 abbrev pub AlwaysNobodySlower : Type 0
 AlwaysNobodySlower = (floor : Float) (turns : List Turn) → T (fits binary64 floor) → T (all typed turns) → WhereverFilled NobodySlowerFilling (run-with-floor floor turns)
 
