@@ -19,8 +19,6 @@ pub fn make(flows: Flows, call: Call, path: &[u32], lent: &mut [u32]) -> Made
         Call::Advance(time) => changing(advance::advance(flows, time, lent)),
         Call::Submit(s) => submit(flows, s, path),
         Call::Cancel(id) => changing(cancel::cancel(flows, id)),
-        Call::Pause(id) => changing(pause::pause(flows, id)),
-        Call::Resume(id) => changing(pause::resume(flows, id)),
         Call::AddEdge(capacity) => changing(edges::add_edge(flows, capacity)),
         Call::Widen(edge, amount) => changing(edges::widen(flows, edge, amount)),
         Call::TakeCompleted(owner) => changing(collecting::take_completed(flows, owner, lent)),

@@ -2,9 +2,10 @@
 -- one of that kind is in flight. Assumes nothing.
 use Prim.Native.Nat.{ℕ, ◌+◌, ◌<◌, ◌^◌}
 use native.Mathlib.Omega.{arith}
-use mathlib.Core.Path.{◌≡◌, refl, ◌∙◌}
-use mathlib.Core.Bool.{true, cond}
+use mathlib.Core.Path.{◌≡◌, refl, ap, ◌∙◌}
+use mathlib.Core.Bool.{true, ◌&&◌, cond}
 use mathlib.Core.List.{map}
+use lib.Dec.{eqb}
 use borrow.Author.Tests.{eq-eqb}
 use lib.ListN.{get_or, set}
 use Rattle.rules.specs.declared.Owner.{Owner}
@@ -13,13 +14,20 @@ use Rattle.rules.specs.Records.{free, has_id, owner_kind, tally_of, with_in_flig
 use Rattle.rules.specs.Clock.{drained_to_clock}
 use Rattle.rules.specs.Cancel.{count_cancelled, owner_of, cancelled}
 use Rattle.rules.specs.Invariant.{of_kind, Invariant}
-use Rattle.slots.proofs.Found.{Found, holds_id, changed_one}
-use Rattle.keeps.proofs.Crowd.{same_holder, same_length}
+use Rattle.slots.specs.declared.Lookup.TheVariants.{Slot}
+use Rattle.slots.specs.Lookup.{lookup}
+use Rattle.slots.proofs.Found.{Found, somewhere, holds_id, one_slot}
+use Rattle.keeps.proofs.Crowd.{Who, same_at, same_length}
 use Rattle.rules.proofs.Counting.{count_set}
 use Rattle.keeps.proofs.Tally.{on_tally_is}
 use Rattle.keeps.proofs.Draining.{drained_to_clock_keeps, drained_to_clock_reaches}
+use Rattle.rules.proofs.OneChanged.{one_changed}
 
 module _ {f : Flows} (inv : Invariant f) where
+  -- a slot that was found is one of the table's
+  pub found_below : (id : ℕ) {i : ℕ} → lookup id f.in_flight ≡ Slot i → i < 256
+  found_below id {i} e = omega (arith, inv.slot_places, (somewhere id f.in_flight i e).inside)
+
   -- a drain counts nobody
   pub drained_tally : (owner : Owner) → (tally_of owner (drained_to_clock f).totals).cancelled ≡ (tally_of owner f.totals).cancelled
   drained_tally owner = rw (drained_to_clock_reaches inv).totals
@@ -30,10 +38,13 @@ module _ (id i : ℕ) {f : Flows} (inv : Invariant f) (found : Found id f.in_fli
 
   -- where it stood it stands
   still_there : has_id id (get_or d.in_flight i free) ≡ true
-  still_there = same_holder (drained_to_clock_reaches inv).alike id i ∙ found.holds
+  unfolding has_id
+  still_there = ap (λ (w : Who). w.taken && eqb w.id id) (same_at (drained_to_clock_reaches inv).alike i) ∙ found.holds
 
   freed_is : map (λ t. cond (has_id id t) free t) d.in_flight ≡ set d.in_flight i free
-  freed_is = changed_one (drained_to_clock_keeps inv) id i (omega (arith, same_length (drained_to_clock_reaches inv).alike, found.inside)) still_there (λ t. free)
+  freed_is =
+      one_changed (has_id id) free free d.in_flight i (omega (arith, same_length (drained_to_clock_reaches inv).alike, found.inside)) still_there (λ j l e.
+      one_slot (drained_to_clock_keeps inv) id j i e still_there)
 
   abbrev whose : Owner
   whose = (get_or f.in_flight i free).owner

@@ -90,7 +90,7 @@ fn rated_for(flows: Flows, until: f64) -> Flows
     flows
 }
 
-// The load integrals and the clock moved on to a time, under the crossings of all that count.
+// The load integrals and the clock moved on to a time, under the crossings of all in flight.
 pub fn pass_time(flows: Flows, load: [usize; 64], until: f64) -> Flows
     requires places { length flows.edges ≡ 64 }
     requires right { load ≡ (edge_loads flows).load }

@@ -66,7 +66,7 @@ module _ (p : Transfer → Bool) where
       let none : get_or blank e 0 ≡ 0 = each_same (λ (z : ℕ). z ≡ 0) 0 64 0 refl refl e in
       omega (arith, all_at slots blank e inside, none, loads_at slots e inside))
 
--- a table of edges put through the loads is put through the crossings themselves
+-- a table of edges put through the loads of all in flight is put through the crossings themselves
 pub by_loads : {A : Type 0} (slots : List Transfer) (g : ℕ → A → A) (xs : List A) → length xs ≡ 64 → map_from 0 (λ e x. g (get_or (loads slots) e 0) x) xs ≡ map_from 0 (λ e x. g (crossings_by counts_in_loads own_path slots e) x) xs
 by_loads slots g xs h =
     map_from_same 0 (λ e x. g (get_or (loads slots) e 0) x) (λ e x. g (crossings_by counts_in_loads own_path slots e) x) xs (λ e x q. ap (λ (n : ℕ). g n x) (loads_at counts_in_loads slots e (omega arith)))

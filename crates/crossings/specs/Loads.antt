@@ -6,11 +6,11 @@ use Rattle.rules.specs.Records.{max_edges, own_path}
 use Rattle.rules.specs.Clock.{crossings_by, counts_in_loads}
 use Rattle.rules.specs.Filling.{takes_part}
 use Rattle.crossings.specs.declared.Counted.{Counted}
-use Rattle.crossings.specs.declared.Counted.TheVariants.{InLoads, TakingPart}
+use Rattle.crossings.specs.declared.Counted.TheVariants.{InFlight, TakingPart}
 
 -- Whose crossings are counted.
 unfoldable pub counts : Counted → Transfer → Bool
-counts InLoads = counts_in_loads
+counts InFlight = counts_in_loads
 counts TakingPart = takes_part
 
 -- The load of each edge, with a transfer's crossings counted where it passes the test.
@@ -21,6 +21,6 @@ counted p load t = cond (p t) (at_each_crossing (own_path t) (λ n. n + 1) load)
 unfoldable pub loads_by : (Transfer → Bool) → List Transfer → List ℕ
 loads_by p slots = map_from 0 (λ e (n : ℕ). crossings_by p own_path slots e) (replicate max_edges 0)
 
--- The crossings of each edge by all that count in its load.
+-- The crossings of each edge by all in flight.
 abbrev pub loads : List Transfer → List ℕ
 loads slots = loads_by counts_in_loads slots

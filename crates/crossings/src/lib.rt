@@ -9,20 +9,20 @@ ghost use Rattle.crossings.specs.Loads.{counts, counted, loads_by, loads};
 
 use rules::{Edge, Transfer};
 
-// Whose crossings are counted: theirs who count in the load of edges, or theirs alone who take part in a filling.
+// Whose crossings are counted in a load: everybody's in flight, or theirs alone who take part in a filling.
 #[derive(Drop)]
 pub enum Counted {
-    InLoads,
+    InFlight,
     TakingPart,
 }
 
-// The crossings of each edge by all that count in its load.
+// The crossings of each edge by the transfers in flight.
 pub fn edge_loads(in_flight: [Transfer; 256]) -> [usize; 64]
     requires routes { Each (λ t. SoundRoute 64 t.path) free in_flight }
     requires room { sum (map (λ t. length (own_path t)) in_flight) ≤ 2048 }
     ensures { result ≡ loads in_flight }
 {
-    loads_of(in_flight, Counted::InLoads)
+    loads_of(in_flight, Counted::InFlight)
 }
 
 // The crossings of each edge by some of the transfers.
@@ -46,7 +46,7 @@ fn counts(who: Counted, t: Transfer) -> bool
     ensures { result ≡ counts who t }
 {
     match who {
-        Counted::InLoads => transfers::counts_in_loads(t),
+        Counted::InFlight => transfers::counts_in_loads(t),
         Counted::TakingPart => transfers::takes_part(t),
     }
 }

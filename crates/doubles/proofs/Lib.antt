@@ -14,6 +14,5 @@ pub mod Monotone
 pub mod Chosen
 pub mod Zeros
 pub mod Above
-pub mod Nothing
 pub mod Bits
 pub mod Binary64

@@ -4,7 +4,7 @@ ghost use mathlib.Core.List.{map, foldl};
 ghost use Rattle.doubles.specs.Doubles.{nought};
 ghost use Rattle.rules.specs.Lists.{Each, map_from};
 ghost use Rattle.rules.specs.Records.{free, own_path};
-ghost use Rattle.rules.specs.Clock.{drain_time, latency_paid, flowing_time, moves, bytes_flowing, drained, deliver};
+ghost use Rattle.rules.specs.Clock.{latency_paid, flowing_time, moves, bytes_flowing, drained, deliver};
 ghost use Rattle.rules.specs.Invariant.{SoundRoute};
 ghost use Rattle.draining.specs.Credits.{credited, with_moved};
 
@@ -32,19 +32,11 @@ pub fn moves(t: Transfer, until: f64) -> bool
     }
 }
 
-// The time that passes for a transfer on the way to a time: none while it is paused.
-fn drain_time(t: Transfer, until: f64) -> f64
-    ensures { result ≡ drain_time until t }
-{
-    if t.paused { 0.0 } else { until - t.last_update }
-}
-
-// The latency that a transfer pays meanwhile.
+// The latency that a transfer pays on the way to a time.
 fn latency_paid(t: Transfer, until: f64) -> f64
     ensures { result ≡ latency_paid until t }
 {
-    let passed = drain_time(t, until);
-    doubles::smaller(t.latency_remaining, passed)
+    doubles::smaller(t.latency_remaining, until - t.last_update)
 }
 
 // The time that remains for its bytes.
@@ -52,7 +44,7 @@ fn flowing_time(t: Transfer, until: f64) -> f64
     ensures { result ≡ flowing_time until t }
 {
     let paid = latency_paid(t, until);
-    drain_time(t, until) - paid
+    until - t.last_update - paid
 }
 
 // The bytes that flow meanwhile.

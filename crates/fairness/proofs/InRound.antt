@@ -12,7 +12,7 @@ use Rattle.fairness.proofs.Rounds.{frozen_at, frozen_stays, round_seat}
 
 module _ (path : Transfer → List ℕ) where
   -- who is frozen stays as it is
-  pub stays_frozen : (n : ℕ) (f : Filling) (i : ℕ) → (seat_at f i).unfrozen ≡ false → seat_at (rounds_until path n f) i ≡ seat_at f i
+  stays_frozen : (n : ℕ) (f : Filling) (i : ℕ) → (seat_at f i).unfrozen ≡ false → seat_at (rounds_until path n f) i ≡ seat_at f i
   unfolding rounds_until
   stays_frozen zero f i u = refl
   stays_frozen (suc n) f i u =

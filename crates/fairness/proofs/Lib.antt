@@ -17,5 +17,4 @@ pub mod Begins
 pub mod Ended
 pub mod Filled
 pub mod Rates
-pub mod Unread
 pub mod Fair

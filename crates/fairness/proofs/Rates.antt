@@ -82,17 +82,12 @@ module _ (f : Flows) (inv : Invariant f) where
   pub rated_length : length (rated f) ≡ length f.in_flight
   rated_length = length-map (recompute_rates (path_of f) f.edges f.in_flight).seats (λ (s : Seat). s.transfer) ∙ filled_length fillable
 
-  pub rated_at : (i : ℕ) → get_or (rated f) i free ≡ (seat_at (recompute_rates (path_of f) f.edges f.in_flight) i).transfer
+  rated_at : (i : ℕ) → get_or (rated f) i free ≡ (seat_at (recompute_rates (path_of f) f.edges f.in_flight) i).transfer
   rated_at i = get_or-map (λ (s : Seat). s.transfer) (recompute_rates (path_of f) f.edges f.in_flight).seats i no_seat
 
   -- a transfer keeps all but its rate and limit
   pub rated_keeps : {A : Type 0} (g : Transfer → A) → Steady g → (i : ℕ) → g (get_or (rated f) i free) ≡ g (get_or f.in_flight i free)
   rated_keeps g kept i = rw (rated_at i) (filled_keeps fillable g kept i)
-
-  -- so it is the transfer with its new rate and limit
-  pub rated_is : (i : ℕ) → let after = get_or (rated f) i free in after ≡ with_rate after.rate after.limit (get_or f.in_flight i free)
-  unfolding with_rate
-  rated_is i = let after = get_or (rated f) i free in rated_keeps (with_rate after.rate after.limit) (λ rate limit t. refl) i
 
   -- and who takes no part keeps its rate too
   pub rated_stays : (i : ℕ) → takes_part (get_or f.in_flight i free) ≡ false → get_or (rated f) i free ≡ with_rate (get_or f.in_flight i free).rate Nowhere (get_or f.in_flight i free)

@@ -1,7 +1,7 @@
 -- A filling starts with each slot seated, whoever takes part with a path unfrozen; under the invariant such paths run over edges that there are, so the filling is
 -- ready, ends with none unfrozen, and takes at most one round for each that was. Assumes nothing.
-use mathlib.Core.Path.{◌≡◌, refl, sym, ap, ◌∙◌}
-use mathlib.Core.Bool.{Bool, true, false, not, ◌&&◌, cond, true≢false}
+use mathlib.Core.Path.{◌≡◌, refl, sym}
+use mathlib.Core.Bool.{Bool, true, false, ◌&&◌, cond, true≢false}
 use mathlib.Core.List.{List, [], ◌∷◌}
 use Prim.Native.Nat.{ℕ, ◌≤◌, ◌<◌}
 use native.Mathlib.Omega.{arith}
@@ -16,7 +16,6 @@ use Rattle.rules.specs.Tolerance.{B}
 use Rattle.rules.specs.Records.{free, own_path, path_of}
 use Rattle.rules.specs.Filling.{takes_part, Filling, with_rate, lone_rate, entered, seat, start, num_unfrozen, recompute_rates, seat_at}
 use Rattle.rules.specs.Invariant.{SoundRoute, SoundTransfer, Invariant}
-use Rattle.rules.proofs.Conds.{both, and_false}
 use Rattle.fairness.specs.Ready.{Ready}
 use Rattle.fairness.proofs.Reading.{Steady, KeepsPath}
 use Rattle.fairness.proofs.Rounds.{rounds_bound, in_the_end}
@@ -81,12 +80,11 @@ own_path_kept rate limit t = refl
 
 pub takes_part_taken : (t : Transfer) → takes_part t ≡ true → t.taken ≡ true
 unfolding takes_part
-takes_part_taken t h = (both t.taken (not t.paused && B ≺ t.bytes_remaining) h).0
-
--- a paused one takes no part
-pub paused_rests : (t : Transfer) → t.paused ≡ true → takes_part t ≡ false
-unfolding takes_part
-paused_rests t e = ap (λ (b : Bool). t.taken && (not b && B ≺ t.bytes_remaining)) e ∙ and_false t.taken
+takes_part_taken t h = go t.taken (B ≺ t.bytes_remaining) h
+  where
+    go : (b c : Bool) → (b && c) ≡ true → b ≡ true
+    go true c h = refl
+    go false c h = h
 
 -- a sound route as read: its length, and its numbers
 module _ (n : ℕ) (t : Transfer) (sound : SoundRoute n t.path) where

@@ -10,7 +10,7 @@ use borrow.Author.Tests.{ltb-false}
 use Rattle.doubles.specs.Doubles.{read_zero}
 use Rattle.rules.specs.declared.Owner.{Owner}
 use Rattle.rules.specs.declared.Answer.{Answer}
-use Rattle.rules.specs.declared.Answer.TheVariants.{Done, Added, Listed, Nothing, Unknown, Already, CannotFinish, Value, Due, Limited, Refused}
+use Rattle.rules.specs.declared.Answer.TheVariants.{Done, Added, Listed, Nothing, Unknown, CannotFinish, Value, Due, Limited, Refused}
 use Rattle.rules.specs.declared.Flows.{Flows}
 use Rattle.rules.specs.declared.Call.{Call}
 use Rattle.rules.specs.declared.Call.TheVariants as Call_variants
@@ -66,7 +66,6 @@ nothing_fits places (Added n) = tt
 nothing_fits places (Listed n) = omega arith
 nothing_fits places Nothing = tt
 nothing_fits places Unknown = tt
-nothing_fits places Already = tt
 nothing_fits places CannotFinish = tt
 nothing_fits places (Value x) = tt
 nothing_fits places (Due d) = tt
@@ -78,8 +77,6 @@ unfolding call width_of FitsSaid
 call_fits (Call_variants.Advance time) path f buffer = advance_fits time f buffer
 call_fits (Call_variants.Submit s) path f buffer = nothing_fits (length buffer) _
 call_fits (Call_variants.Cancel id) path f buffer = nothing_fits (length buffer) _
-call_fits (Call_variants.Pause id) path f buffer = nothing_fits (length buffer) _
-call_fits (Call_variants.Resume id) path f buffer = nothing_fits (length buffer) _
 call_fits (Call_variants.AddEdge capacity) path f buffer = nothing_fits (length buffer) _
 call_fits (Call_variants.Widen e amount) path f buffer = nothing_fits (length buffer) _
 call_fits (Call_variants.TakeCompleted owner) path f buffer = take_completed_fits owner f buffer

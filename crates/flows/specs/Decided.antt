@@ -17,10 +17,6 @@ use Rattle.edges.proofs.widen.Reads as widen
 use Rattle.edges.proofs.widen.Kinds as widen_kinds
 use Rattle.cancel.proofs.cancel.Reads as cancel
 use Rattle.cancel.proofs.cancel.Kinds as cancel_kinds
-use Rattle.pause.proofs.pause.Reads as pause
-use Rattle.pause.proofs.pause.Kinds as pause_kinds
-use Rattle.pause.proofs.resume.Reads as resume
-use Rattle.pause.proofs.resume.Kinds as resume_kinds
 use Rattle.submission.proofs.submit_capped.Reads as submit_capped
 use Rattle.submission.proofs.submit_capped.Kinds as submit_capped_kinds
 use Rattle.submission.proofs.submit.Reads as submit
@@ -87,8 +83,6 @@ pub record EachDecided : Type 0 where
   pub add_edge : Decided 0 add_edge_kinds.ps add_edge_kinds.r add_edge.Post
   pub widen : Decided 0 widen_kinds.ps widen_kinds.r widen.Post
   pub cancel : Decided 0 cancel_kinds.ps cancel_kinds.r cancel.Post
-  pub pause : Decided 0 pause_kinds.ps pause_kinds.r pause.Post
-  pub resume : Decided 0 resume_kinds.ps resume_kinds.r resume.Post
   pub submit_capped : Decided 1 submit_capped_kinds.ps submit_capped_kinds.r submit_capped.Post
   pub submit : Decided 1 submit_kinds.ps submit_kinds.r submit.Post
   pub next_completion_delay : Decided 0 next_completion_delay_kinds.ps next_completion_delay_kinds.r next_completion_delay.Post

@@ -1,9 +1,9 @@
 -- How many numbers a call lists for each entry, and what fits a lent buffer. Definitions only.
 use Rattle.std.specs.Prelude.{ℕ, ◌*◌, ◌≤◌}
 use Rattle.rules.specs.declared.Answer.{Answer}
-use Rattle.rules.specs.declared.Answer.TheVariants.{Done, Added, Listed, Nothing, Unknown, Already, CannotFinish, Value, Due, Limited, Refused}
+use Rattle.rules.specs.declared.Answer.TheVariants.{Done, Added, Listed, Nothing, Unknown, CannotFinish, Value, Due, Limited, Refused}
 use Rattle.rules.specs.declared.Call.{Call}
-use Rattle.rules.specs.declared.Call.TheVariants.{Advance, Submit, Cancel, Pause, Resume, AddEdge, Widen, TakeCompleted, OwnersWithCompletions, NextCompletionDelay, EstimateNew, Settle, Remaining, MeanInFlight, Rate, Bottleneck, Edge, Contains, Rounds}
+use Rattle.rules.specs.declared.Call.TheVariants.{Advance, Submit, Cancel, AddEdge, Widen, TakeCompleted, OwnersWithCompletions, NextCompletionDelay, EstimateNew, Settle, Remaining, MeanInFlight, Rate, Bottleneck, Edge, Contains, Rounds}
 use Rattle.rules.specs.declared.Said.{Said}
 use Rattle.rules.specs.declared.Said.TheVariants as Said_variants
 
@@ -12,8 +12,6 @@ unfoldable pub width_of : Call → ℕ
 width_of (Advance time) = 3
 width_of (Submit s) = 0
 width_of (Cancel id) = 0
-width_of (Pause id) = 0
-width_of (Resume id) = 0
 width_of (AddEdge capacity) = 0
 width_of (Widen e amount) = 0
 width_of (TakeCompleted owner) = 1
@@ -36,7 +34,6 @@ Fits width places (Added n) = Unit {0}
 Fits width places (Listed n) = n * width ≤ places
 Fits width places Nothing = Unit {0}
 Fits width places Unknown = Unit {0}
-Fits width places Already = Unit {0}
 Fits width places CannotFinish = Unit {0}
 Fits width places (Value x) = Unit {0}
 Fits width places (Due d) = Unit {0}

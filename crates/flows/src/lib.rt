@@ -13,7 +13,6 @@ pub use advance::advance;
 pub use cancel::cancel;
 pub use collecting::take_completed;
 pub use edges::{add_edge, widen};
-pub use pause::{pause, resume};
 pub use submission::{submit, submit_capped};
 pub use time_left::settle;
 

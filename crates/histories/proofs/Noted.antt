@@ -14,7 +14,7 @@ use Rattle.rules.specs.declared.Outcome.{Outcome}
 use Rattle.rules.specs.declared.Flows.{Flows}
 use Rattle.rules.specs.declared.Call.{Call}
 use Rattle.rules.specs.declared.Call.TheVariants as Call_variants
-use Rattle.rules.specs.Records.{owner_kind, contains, with_edges, with_in_flight, with_waiting, with_clock, made_stale}
+use Rattle.rules.specs.Records.{owner_kind, contains, with_edges, with_waiting, with_clock, made_stale}
 use Rattle.rules.specs.Clock.{ensure_rates, pass_time, drained_to_clock}
 use Rattle.rules.specs.Refusals.{answering, refused, Lent, lent, refused_lent, not_finite, not_a_cap, not_a_time, read_cap}
 use Rattle.rules.specs.Queue.{ids_for, collected, taking, take_completed, owners_with_completions}
@@ -22,7 +22,6 @@ use Rattle.rules.specs.Edges.{edge_added, edge_widened, add_edge, widen}
 use Rattle.rules.specs.Submission.{submit_capped}
 use Rattle.rules.specs.Advance.{quiet, done_list, list_done, advance}
 use Rattle.rules.specs.Cancel.{cancelled, cancel}
-use Rattle.rules.specs.Pause.{set_paused, pausing}
 use Rattle.rules.specs.Questions.{next_completion_delay, rate, bottleneck}
 use Rattle.rules.specs.TimeLeft.{settle}
 use Rattle.rules.specs.Histories.{typed_cap, typed_call, call, Turn, typed, after}
@@ -32,7 +31,6 @@ use Rattle.keeps.proofs.Refusing.{refused_or, neither}
 use Rattle.keeps.proofs.Arguments.{time_clock, time_no_earlier}
 use Rattle.keeps.proofs.Passing.{pass_time_is}
 use Rattle.keeps.proofs.Refreshing.{ensure_rates_refreshes}
-use Rattle.keeps.proofs.Pausing.{pausing_or, marked_alike}
 use Rattle.keeps.proofs.Draining.{drain_to_keeps, drain_to_reaches, drained_to_clock_keeps, drained_to_clock_reaches}
 use Rattle.histories.proofs.Agreement.{Agrees, Unheard, unheard_of, unheard_same, unheard_then, unheard_refreshed, unheard_reached, agrees_unheard}
 use Rattle.histories.proofs.Slots.{one_holder}
@@ -57,10 +55,6 @@ module _ {f : Flows} (inv : Invariant f) where
   widen_unheard : (e : ℕ) (amount : Float) → Unheard f (widen e amount f).flows
   unfolding widen edge_widened made_stale with_clock with_edges
   widen_unheard e amount = refused_or (λ (o : Outcome). Unheard f o.flows) _ (refused f) _ (λ n. unheard_same) (λ clear. unheard_then to_clock (unheard_of refl refl))
-
-  pausing_unheard : (paused : Bool) (id : ℕ) → Unheard f (pausing paused id f).flows
-  unfolding set_paused made_stale with_in_flight with_clock
-  pausing_unheard paused id = pausing_or (λ (o : Outcome). Unheard f o.flows) paused id f unheard_same unheard_same (λ known asked. unheard_then to_clock (record { alike = marked_alike paused id (drained_to_clock f).in_flight; totals = refl }))
 
   settle_unheard : Unheard f (settle f).flows
   unfolding settle
@@ -135,8 +129,6 @@ call_agrees (Call_variants.Advance time) path f buffer l t inv a = advance_agree
 call_agrees (Call_variants.Submit s) path f buffer l t inv a =
     submit_agrees inv a s.id s.owner path s.bytes s.latency s.cap s.time (and_r (typed_cap s.cap) (fits binary64 s.time) (and_r (fits binary64 s.latency) (typed_cap s.cap && fits binary64 s.time) t))
 call_agrees (Call_variants.Cancel id) path f buffer l t inv a = cancel_agrees inv a id
-call_agrees (Call_variants.Pause id) path f buffer l t inv a = agrees_unheard (pausing_unheard inv true id) a
-call_agrees (Call_variants.Resume id) path f buffer l t inv a = agrees_unheard (pausing_unheard inv false id) a
 call_agrees (Call_variants.AddEdge capacity) path f buffer l t inv a = agrees_unheard (add_edge_unheard inv capacity) a
 call_agrees (Call_variants.Widen e amount) path f buffer l t inv a = agrees_unheard (widen_unheard inv e amount) a
 call_agrees (Call_variants.TakeCompleted owner) path f buffer l t inv a = agrees_unheard (taking_unheard (ids_for owner f) owner f buffer) a

@@ -1,13 +1,13 @@
 -- After any history of calls the invariant holds, since a simulator as it is made keeps it and every call does. Assumes nothing.
 use Prim.Native.Nat.{ℕ}
-use mathlib.Core.Bool.{true, false, ◌&&◌}
+use mathlib.Core.Bool.{◌&&◌}
 use mathlib.Core.List.{List, [], ◌∷◌}
 use lib.Dec.{T}
 use lib.Ieee.{binary64, fits}
 use lib.Ieee.Fits.{and_l, and_r}
 use Rattle.rules.specs.declared.Flows.{Flows}
 use Rattle.rules.specs.declared.Call.{Call}
-use Rattle.rules.specs.declared.Call.TheVariants.{Advance, Submit, Cancel, Pause, Resume, AddEdge, Widen, TakeCompleted, OwnersWithCompletions, NextCompletionDelay, EstimateNew, Settle, Remaining, MeanInFlight, Rate, Bottleneck, Edge, Contains, Rounds}
+use Rattle.rules.specs.declared.Call.TheVariants.{Advance, Submit, Cancel, AddEdge, Widen, TakeCompleted, OwnersWithCompletions, NextCompletionDelay, EstimateNew, Settle, Remaining, MeanInFlight, Rate, Bottleneck, Edge, Contains, Rounds}
 use Rattle.rules.specs.Lists.{all}
 use Rattle.rules.specs.Floors.{with_floor}
 use Rattle.rules.specs.Histories.{typed_cap, typed_call, call, Turn, typed, after, run}
@@ -23,8 +23,6 @@ call_keeps (Submit s) path f buffer t inv =
     let rest = and_r (fits binary64 s.latency) (typed_cap s.cap && fits binary64 s.time) t in
     Keeps.submit_capped_keeps s.id s.owner path s.bytes s.latency s.cap s.time f (and_l (fits binary64 s.latency) (typed_cap s.cap && fits binary64 s.time) t) (and_l (typed_cap s.cap) (fits binary64 s.time) rest) (and_r (typed_cap s.cap) (fits binary64 s.time) rest) inv
 call_keeps (Cancel id) path f buffer t inv = Keeps.cancel_keeps id f inv
-call_keeps (Pause id) path f buffer t inv = Keeps.pausing_keeps true id f inv
-call_keeps (Resume id) path f buffer t inv = Keeps.pausing_keeps false id f inv
 call_keeps (AddEdge capacity) path f buffer t inv = Keeps.add_edge_keeps capacity f t inv
 call_keeps (Widen e amount) path f buffer t inv = Keeps.widen_keeps e amount f t inv
 call_keeps (TakeCompleted owner) path f buffer t inv = Keeps.take_completed_keeps owner f buffer inv

@@ -16,7 +16,6 @@ use Rattle.rules.specs.declared.Cap.{Cap}
 use Rattle.rules.specs.declared.Completion.{Completion}
 use Rattle.rules.specs.declared.Edge.{Edge}
 use Rattle.rules.specs.declared.Answer.TheVariants.{Done, Unknown}
-use Rattle.rules.specs.declared.Outcome.{Outcome}
 use Rattle.rules.specs.declared.Flows.{Flows}
 use Rattle.rules.specs.Records.{max_edges, max_path, max_slots, blank_edge, contains, num_in_flight, tally_of}
 use Rattle.rules.specs.Clock.{settled}
@@ -26,7 +25,6 @@ use Rattle.rules.specs.Edges
 use Rattle.rules.specs.Submission
 use Rattle.rules.specs.Advance
 use Rattle.rules.specs.Cancel
-use Rattle.rules.specs.Pause.{pausing}
 use Rattle.rules.specs.Queue.{taking, take_completed, ids_for, owners_with_completions}
 use Rattle.rules.specs.Questions.{next_completion_delay, rate, bottleneck}
 use Rattle.rules.specs.TimeLeft.{settle}
@@ -44,7 +42,6 @@ use Rattle.keeps.proofs.Draining.{drain_to_keeps, drain_to_reaches, settled_at_c
 use Rattle.keeps.proofs.Submission.{submitted_keeps}
 use Rattle.keeps.proofs.Completing.{completed_keeps}
 use Rattle.keeps.proofs.Cancelling.{cancelled_keeps}
-use Rattle.keeps.proofs.Pausing.{pausing_or, set_paused_keeps}
 use Rattle.keeps.proofs.Waiting.{collected_keeps}
 
 -- ---- edges
@@ -132,7 +129,7 @@ advance_keeps until f buffer typed inv = refused_or (λ (l : Lent). Invariant l.
     by_test (λ (l : Lent). Invariant l.outcome.flows) (Advance.quiet (read_zero until) f) (λ still. pass_time_keeps inv time later (quiet_fresh (read_zero until) f still))
     (listing_keeps d (Advance.done_list d) f buffer inv (completions_keep inv time later)))
 
--- ---- cancel, pause and collect
+-- ---- cancel and collect
 
 pub cancel_keeps : (id : ℕ) (f : Flows) → Invariant f → Invariant (Cancel.cancel id f).flows
 unfolding Cancel.cancel
@@ -141,9 +138,6 @@ cancel_keeps id f inv = go (contains id f) refl
     go : (b : Bool) → contains id f ≡ b → Invariant (cond b (answering Done (Cancel.cancelled id f)) (answering Unknown f)).flows
     go true e = cancelled_keeps id f e (drained_to_clock_reaches inv)
     go false e = inv
-
-pub pausing_keeps : (paused : Bool) (id : ℕ) (f : Flows) → Invariant f → Invariant (pausing paused id f).flows
-pausing_keeps paused id f inv = pausing_or (λ (o : Outcome). Invariant o.flows) paused id f inv inv (λ known asked. set_paused_keeps paused id f (drained_to_clock_reaches inv))
 
 pub take_completed_keeps : (owner : Owner) (f : Flows) (buffer : List ℕ) → Invariant f → Invariant (take_completed owner f buffer).outcome.flows
 unfolding take_completed

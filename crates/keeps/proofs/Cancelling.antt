@@ -51,7 +51,7 @@ found id (t ∷ slots) h = go (has_id id t) refl (found id slots)
 cleared_one : (id : ℕ) {owner : Owner} (slots : List Transfer) → CrowdSound slots → (j : ℕ) → Holding id owner (get_or slots j free) → map (cleared (has_id id)) slots ≡ set slots j free
 unfolding has_id
 cleared_one id slots crowd j here =
-    one_changed (has_id id) (λ t. free) free slots j (taken_inside slots j here.taken) (rw here.taken (eq-eqb (get_or slots j free).id id here.id_is)) (λ i l e.
+    one_changed (has_id id) free free slots j (taken_inside slots j here.taken) (rw here.taken (eq-eqb (get_or slots j free).id id here.id_is)) (λ i l e.
     let parts = both (get_or slots i free).taken (eqb (get_or slots i free).id id) e in
     crowd.ids_differ i j parts.0 here.taken (eqb-true (get_or slots i free).id id parts.1 ∙ sym here.id_is))
 

@@ -1,7 +1,7 @@
 -- Those that are done leave their slots and are owed; each that is counted and queued is owed no more, and in the end nothing is. Assumes nothing.
 use Prim.Native.Nat.{suc, ◌+◌, ◌≤◌}
 use native.Mathlib.Omega.{arith}
-use mathlib.Core.Path.{◌≡◌, refl, sym}
+use mathlib.Core.Path.{◌≡◌, refl}
 use mathlib.Core.Bool.{Bool, true, false, ◌&&◌, cond}
 use mathlib.Core.List.{List, [], ◌∷◌, map, foldl}
 use lib.Dec.{ltb}
@@ -15,7 +15,6 @@ use Rattle.rules.specs.Done.{done_eps, is_done}
 use Rattle.rules.specs.Queue.{inserted, queued}
 use Rattle.rules.specs.Advance.{done_now, by_id, done_list, count_completed, completed_one, completed}
 use Rattle.rules.specs.Invariant.{SoundSlot, of_kind, Invariant}
-use Rattle.rules.proofs.Conds.{and_true}
 use Rattle.rules.proofs.Counting.{count_map, one_if, count_same, count_those, count_cleared, count_everyone}
 use Rattle.keeps.proofs.Parts.{parts}
 use Rattle.keeps.proofs.Drained.{owed_by, Owing, Drained, drained_parts, made_stale_keeps, slot_in, free_slot}
@@ -72,7 +71,11 @@ all_leave : (d : Flows) → count (λ t. t.taken) (map (cleared (done_now d)) d.
 all_leave d = rw (plainly (map (cleared (done_now d)) d.in_flight), plainly d.in_flight, ← count_everyone (done_list d)) (leaves d (λ c. true))
   where
     plainly : (slots : List Transfer) → count (λ t. t.taken) slots ≡ count (λ t. t.taken && true) slots
-    plainly slots = count_same (λ t. t.taken) (λ t. t.taken && true) slots (λ t. sym (and_true t.taken))
+    plainly slots = count_same (λ t. t.taken) (λ t. t.taken && true) slots (λ t. go t.taken)
+      where
+        go : (b : Bool) → b ≡ (b && true)
+        go true = refl
+        go false = refl
 
 pub emptied_drained : (d : Flows) → Drained [] d → Drained (done_list d) (with_in_flight (map (cleared (done_now d)) d.in_flight) d)
 unfolding with_in_flight with_totals count of_kind

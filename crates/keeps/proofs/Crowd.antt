@@ -1,7 +1,7 @@
--- Who is in flight: the counts, ids and paths are read from what no drain, no filling and no mark changes, so tables that agree there share those facts. Assumes nothing.
+-- Who is in flight: the counts, ids, paths and loads are read from what no drain and no filling changes, so tables that agree there share those facts. Assumes nothing.
 use Prim.Native.Nat.{ℕ, ◌+◌}
 use mathlib.Core.Path.{◌≡◌, refl, sym, ap, ◌∙◌}
-use mathlib.Core.Bool.{Bool, ◌&&◌}
+use mathlib.Core.Bool.{Bool, ◌&&◌, cond}
 use mathlib.Core.List.{List, [], ◌∷◌, map}
 use lib.Dec.{eqb, ltb}
 use lib.ListN.{length, get_or, take, length-map, get_or-map}
@@ -13,15 +13,15 @@ use Rattle.rules.specs.declared.Tally.{Tally}
 use Rattle.rules.specs.declared.Totals.{Totals}
 use Rattle.rules.specs.declared.EdgeLoad.{EdgeLoad}
 use Rattle.rules.specs.declared.Clock.{Clock}
-use Rattle.rules.specs.Lists.{count, sum}
-use Rattle.rules.specs.Records.{free, own_path, has_id, owner_kind, tally_of}
+use Rattle.rules.specs.Lists.{count, sum, crossings}
+use Rattle.rules.specs.Records.{free, own_path, owner_kind, tally_of}
 use Rattle.rules.specs.Clock.{crossings_by, counts_in_loads}
 use Rattle.rules.specs.Invariant.{of_kind, Balanced}
 use Rattle.rules.proofs.Counting.{count_map}
 use Rattle.rules.proofs.Numbered.{map_from_same, map_from_numbers}
 use Rattle.keeps.proofs.Parts.{CrowdSound, TotalsSound, RatesSound, loads}
 
--- What no drain, no filling and no mark changes of a transfer.
+-- What no drain and no filling changes of a transfer.
 pub record Who : Type 0 where
   pub taken : Bool
   pub id : ℕ
@@ -54,10 +54,6 @@ module _ {xs ys : List Transfer} (alike : Alike xs ys) where
   pub same_taken : (i : ℕ) → (get_or ys i free).taken ≡ (get_or xs i free).taken
   same_taken i = ap (λ (w : Who). w.taken) (same_at i)
 
-  pub same_holder : (id i : ℕ) → has_id id (get_or ys i free) ≡ has_id id (get_or xs i free)
-  unfolding has_id
-  same_holder id i = ap (λ (w : Who). w.taken && eqb w.id id) (same_at i)
-
   pub same_length : length ys ≡ length xs
   same_length = sym (length-map ys who) ∙ ap (λ (ws : List Who). length ws) alike.same ∙ length-map xs who
 
@@ -86,21 +82,21 @@ module _ {xs ys : List Transfer} (alike : Alike xs ys) where
     balanced = λ owner. same_balance owner (tally_of owner totals) (t.balanced owner);
   }
 
+  pub same_crossings : (e : ℕ) → crossings_by counts_in_loads own_path ys e ≡ crossings_by counts_in_loads own_path xs e
+  unfolding crossings_by counts_in_loads own_path
+  same_crossings e = same_sum (λ w. cond w.taken (crossings e (take w.path.len w.path.hops)) 0)
+
 -- ---- rates
 
--- every edge is crossed as often by those that count
-pub record SameLoads (xs ys : List Transfer) : Type 0 where
-  pub crossed : (e : ℕ) → crossings_by counts_in_loads own_path ys e ≡ crossings_by counts_in_loads own_path xs e
-
-module _ {xs ys : List Transfer} (loaded : SameLoads xs ys) where
+module _ {xs ys : List Transfer} (alike : Alike xs ys) where
   pub same_loads : (edges edges' : List Edge) (n : ℕ) → length edges' ≡ length edges → loads ys edges' n ≡ loads xs edges n
   same_loads edges edges' n l = ap (λ (table : List ℕ). record { load = table; len = n })
-      (map_from_same 0 (λ e edge. crossings_by counts_in_loads own_path ys e) (λ e edge. crossings_by counts_in_loads own_path xs e) edges' (λ e edge inside. loaded.crossed e)
+      (map_from_same 0 (λ e edge. crossings_by counts_in_loads own_path ys e) (λ e edge. crossings_by counts_in_loads own_path xs e) edges' (λ e edge inside. same_crossings alike e)
       ∙ map_from_numbers 0 (crossings_by counts_in_loads own_path xs) edges' edges l)
 
-  pub same_rates : {clock : Clock} {load : EdgeLoad} {edges : List Edge} {n : ℕ} → Alike xs ys → (clock' : Clock) (edges' : List Edge) → length edges' ≡ length edges
+  pub same_rates : {clock : Clock} {load : EdgeLoad} {edges : List Edge} {n : ℕ} (clock' : Clock) (edges' : List Edge) → length edges' ≡ length edges
       → clock'.rates_dirty ≡ clock.rates_dirty → clock'.rounds ≡ clock.rounds → RatesSound clock load xs edges n → RatesSound clock' load ys edges' n
-  same_rates {clock} {load} {edges} {n} alike clock' edges' l d r rates = record {
+  same_rates {clock} {load} {edges} {n} clock' edges' l d r rates = record {
     right = λ fresh. rates.right (sym d ∙ fresh) ∙ sym (same_loads edges edges' n l);
     few = λ fresh. rw (r, same_count alike (λ w. w.taken && ltb 0 w.path.len)) (rates.few (sym d ∙ fresh));
   }

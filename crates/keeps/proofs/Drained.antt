@@ -91,7 +91,6 @@ module _ (f g : Flows) (more : f.num_edges ≤ g.num_edges) {t : Transfer} where
     cap = s.cap;
     rate = s.rate;
     rate_finite = s.rate_finite;
-    still = s.still;
     updated = s.updated ∙ sym same;
   }
 

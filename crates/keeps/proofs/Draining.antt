@@ -16,11 +16,10 @@ use Rattle.rules.specs.Records.{free, own_path, with_edges, with_in_flight, with
 use Rattle.rules.specs.Clock.{ensure_rates, moves, bytes_flowing, drained, gain_moved, deliver, pass_time, drain_slots, drain_to, settled, drained_to_clock}
 use Rattle.rules.specs.Invariant.{ClockTime, SoundSlot, Invariant}
 use Rattle.rules.proofs.Conds.{by_test}
-use Rattle.rules.proofs.Folds.{map_unseen}
 use Rattle.doubles.proofs.Monotone.{plain_le_trans}
 use Rattle.keeps.proofs.Stalls.{elapsed}
 use Rattle.keeps.proofs.OneDrained.{Same, drained_same}
-use Rattle.keeps.proofs.SlotsDrained.{crossings_drained, slots_kept}
+use Rattle.keeps.proofs.SlotsDrained.{slots_kept}
 use Rattle.keeps.proofs.EdgesDrained.{length_delivered, delivered_sound, delivered_away}
 use Rattle.keeps.proofs.Arguments.{le_itself}
 use Rattle.keeps.proofs.Parts.{EdgesSound, parts}
@@ -58,7 +57,8 @@ same_who t u s = rw (s.taken, s.id, s.owner, s.path) refl
 
 -- what a drain leaves of each transfer it leaves of all
 pub each_drained : {A : Type 0} (g : Transfer → A) (until : Float) → ((t : Transfer) → g (drained until t) ≡ g t) → (slots : List Transfer) → map g (map (drained until) slots) ≡ map g slots
-each_drained g until same slots = map_unseen (λ t. Unit {0}) free (drained until) g (λ t any. same t) slots (λ i. tt)
+each_drained g until same [] = refl
+each_drained g until same (t ∷ slots) = rw (each_drained g until same slots, same t) refl
 
 -- ---- slots drained, then time passed
 
@@ -98,7 +98,6 @@ module _ (until : Float) (g : Flows) (time : ClockTime until) (later : T (g.cloc
       retimed_keeps inv edges slots until until time time.plain (le_itself time.plain) (λ e. refl)
       (busied_sound after (until ⊖ g.clock.now) slots credited each (same_crowd alike (parts inv).crowd).path_room (elapsed inv.clock.plain time later) credited_sound)
       alike
-      (record { crossed = crossings_drained until g.in_flight })
       each
 
   after_is : pass_time until (drain_slots until g) ≡ after

@@ -1,6 +1,6 @@
 -- What a drain keeps of the edges: there are as many, each stays sound, and those that nobody crosses stay as they were. Assumes nothing.
 use mathlib.Core.Path.{◌≡◌, refl, sym, ap, ◌∙◌}
-use mathlib.Core.Bool.{Bool, true, false, not, ◌&&◌, cond}
+use mathlib.Core.Bool.{Bool, true, false, ◌&&◌, cond}
 use mathlib.Core.List.{List, [], ◌∷◌, foldl}
 use Prim.Native.Nat.{ℕ, zero, suc, ◌+◌, ◌≤◌, ◌<◌}
 use native.Mathlib.Nat.{add-zero, zero-add}
@@ -114,12 +114,11 @@ module _ {f : Flows} (e : ℕ) (past : f.num_edges ≤ e) where
   pub loads_away : (slots : List Transfer) → Each (SoundSlot f) free slots → crossings_by counts_in_loads own_path slots e ≡ 0
   unfolding crossings_by counts_in_loads sum
   loads_away [] each = refl
-  loads_away (t ∷ slots) each = omega (arith, none t.taken (not t.paused) refl, loads_away slots (λ i. each (suc i)))
+  loads_away (t ∷ slots) each = omega (arith, none t.taken refl, loads_away slots (λ i. each (suc i)))
     where
-      none : (b c : Bool) → t.taken ≡ b → ◌≡◌ {A = ℕ} (cond (b && c) (crossings e (own_path t)) 0) 0
-      none true true q = away_crossings e (own_path t) (known_held t (each 0) q)
-      none true false q = refl
-      none false c q = refl
+      none : (b : Bool) → t.taken ≡ b → ◌≡◌ {A = ℕ} (cond b (crossings e (own_path t)) 0) 0
+      none true q = away_crossings e (own_path t) (known_held t (each 0) q)
+      none false q = refl
 
 -- ---- load integrals
 module _ (dt : Float) (load : ℕ → ℕ) where

@@ -24,13 +24,11 @@ use Rattle.rules.specs.Edges.{edge_added, add_edge, edge_widened, widen}
 use Rattle.rules.specs.Submission.{submitted_transfer, peak_taken, started, submitted, submit_capped}
 use Rattle.rules.specs.Advance.{completed_one, completed, done_list, quiet, list_done, advance}
 use Rattle.rules.specs.Cancel.{cancelled, cancel}
-use Rattle.rules.specs.Pause.{set_paused, pausing}
 use Rattle.rules.specs.Questions.{next_completion_delay, rate, bottleneck}
 use Rattle.rules.specs.TimeLeft.{settle}
 use Rattle.rules.specs.Histories.{call, after, run}
 use Rattle.rules.specs.Promises.{FloorStays}
 use Rattle.keeps.proofs.Refusing.{refused_or}
-use Rattle.keeps.proofs.Pausing.{pausing_or}
 use Rattle.keeps.proofs.Passing.{pass_time_is}
 use Rattle.keeps.proofs.Unmoved.{owners_still}
 
@@ -111,9 +109,6 @@ by_cancel id f = go (contains id f)
     go true = unfold cancelled made_stale with_in_flight with_clock in counted _ _ (drained_to_clock f) ∙ at_clock f
     go false = refl
 
-by_pausing : (paused : Bool) (id : ℕ) (f : Flows) → Handed f (pausing paused id f).flows
-by_pausing paused id f = pausing_or (λ (o : Outcome). Handed f o.flows) paused id f refl refl (λ known asked. unfold set_paused made_stale with_in_flight with_clock in at_clock f)
-
 by_take : (owner : Owner) (f : Flows) (buffer : List ℕ) → Handed f (take_completed owner f buffer).outcome.flows
 unfolding take_completed
 by_take owner f buffer = go (ids_for owner f)
@@ -127,8 +122,6 @@ unfolding call add_edge edge_added widen edge_widened submit_capped submitted su
 by_call (Call_variants.Advance time) path f buffer = by_advance time f buffer
 by_call (Call_variants.Submit s) path f buffer = refuses f _ _ (by_submission _ s.bytes f)
 by_call (Call_variants.Cancel id) path f buffer = by_cancel id f
-by_call (Call_variants.Pause id) path f buffer = by_pausing true id f
-by_call (Call_variants.Resume id) path f buffer = by_pausing false id f
 by_call (Call_variants.AddEdge capacity) path f buffer = refuses f _ _ (at_clock f)
 by_call (Call_variants.Widen e amount) path f buffer = refuses f _ _ (at_clock f)
 by_call (Call_variants.TakeCompleted owner) path f buffer = by_take owner f buffer

@@ -1,6 +1,5 @@
 pub mod Stalls
 pub mod OneDrained
-pub mod NoTime
 pub mod SlotsDrained
 pub mod EdgesDrained
 pub mod Waits
@@ -16,19 +15,16 @@ pub mod Reached
 pub mod Placing
 pub mod Submission
 pub mod Cancelling
-pub mod Pausing
 pub mod Ascending
 pub mod Waiting
 pub mod Completing
 pub mod Passing
 pub mod Refreshing
 pub mod Draining
-pub mod Again
 pub mod Calls
 pub mod Kept
 pub mod Always
 pub mod Standing
-pub mod StaysPaused
 pub mod Unmoved
 pub mod Zeros
 pub mod Watching

@@ -13,11 +13,10 @@ use Rattle.doubles.proofs.Binary64.{whole_plain, times_nonneg}
 use Rattle.doubles.proofs.Ordered.{exact→le}
 use Rattle.doubles.proofs.Left.{difference_under}
 use Rattle.doubles.proofs.Signs.{plain_nonneg, difference_le_plain}
-use Rattle.doubles.proofs.Zeros.{nought_plain}
 use Rattle.doubles.proofs.Chosen.{smaller_second_plain, smaller_second_under, rest_first_plain, rest_second_plain}
 use Rattle.rules.specs.declared.Transfer.{Transfer}
 use Rattle.rules.specs.declared.Flows.{Flows}
-use Rattle.rules.specs.Clock.{drain_time, latency_paid, flowing_time, moves, bytes_flowing, drained}
+use Rattle.rules.specs.Clock.{latency_paid, flowing_time, moves, bytes_flowing, drained}
 use Rattle.rules.specs.Invariant.{SoundTransfer, SoundSlot}
 use Rattle.rules.proofs.Conds.{by_test, by_true}
 use Rattle.doubles.proofs.Monotone.{plain_le_trans}
@@ -26,7 +25,6 @@ use Rattle.rules.proofs.Routes.{route_more}
 -- ---- what is no business of a drain
 pub record Same (t u : Transfer) : Type 0 where
   pub taken : u.taken ≡ t.taken
-  pub paused : u.paused ≡ t.paused
   pub id : u.id ≡ t.id
   pub owner : u.owner ≡ t.owner
   pub path : u.path ≡ t.path
@@ -36,8 +34,8 @@ pub record Same (t u : Transfer) : Type 0 where
 pub drained_same : (until : Float) (t : Transfer) → Same t (drained until t)
 unfolding drained
 drained_same until t =
-    by_test (Same t) t.taken (λ _. record { taken = refl; paused = refl; id = refl; owner = refl; path = refl; cap = refl; rate = refl })
-    (record { taken = refl; paused = refl; id = refl; owner = refl; path = refl; cap = refl; rate = refl })
+    by_test (Same t) t.taken (λ _. record { taken = refl; id = refl; owner = refl; path = refl; cap = refl; rate = refl })
+    (record { taken = refl; id = refl; owner = refl; path = refl; cap = refl; rate = refl })
 
 -- a free slot is not touched
 pub drained_free : (until : Float) (t : Transfer) → t.taken ≡ false → drained until t ≡ t
@@ -46,9 +44,8 @@ drained_free until t e = rw e
 
 -- ---- a sound transfer, and a time that the last drain does not pass
 module _ {f : Flows} {t : Transfer} {until : Float} (s : SoundTransfer f t) (d : Plain f.clock.last_drain) (p : Plain until) (h : T (f.clock.last_drain ≼ until)) where
-  since : Plain (drain_time until t)
-  unfolding drain_time
-  since = by_test Plain t.paused (λ paused. nought_plain) (rw s.updated (difference_le_plain p d h))
+  since : Plain (until ⊖ t.last_update)
+  since = rw s.updated (difference_le_plain p d h)
 
   pub latency_plain : Plain (t.latency_remaining ⊖ latency_paid until t)
   unfolding latency_paid
@@ -106,7 +103,6 @@ module _ {f : Flows} {t : Transfer} {until : Float} (s : SoundTransfer f t) (d :
         cap = s.cap;
         rate = s.rate;
         rate_finite = s.rate_finite;
-        still = s.still;
         updated = sym at;
       })
 

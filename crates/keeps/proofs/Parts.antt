@@ -54,7 +54,7 @@ pub record TotalsSound (slots : List Transfer) (n : ℕ) (totals : Totals) : Typ
   pub bound : totals.peak_in_flight ≤ max_slots
   pub balanced : (owner : Owner) → Balanced slots owner (tally_of owner totals)
 
--- The crossings of each of n edges by those that count.
+-- The crossings of each of n edges by those in flight.
 abbrev pub loads : List Transfer → List Edge → ℕ → EdgeLoad
 loads slots edges n = record { load = map_from 0 (λ e edge. crossings_by counts_in_loads own_path slots e) edges; len = n }
 

@@ -22,7 +22,7 @@ use Rattle.keeps.proofs.Stalls.{elapsed}
 use Rattle.crossings.proofs.Loads.{few_loads}
 use Rattle.keeps.proofs.EdgesDrained.{loads_away, busy_sound, busy_away}
 use Rattle.keeps.proofs.Parts.{EdgesSound, parts, joined}
-use Rattle.keeps.proofs.Crowd.{Alike, same_crowd, same_totals, SameLoads, same_rates}
+use Rattle.keeps.proofs.Crowd.{Alike, same_crowd, same_totals, same_rates}
 use Rattle.keeps.proofs.Drained.{slot_in}
 
 -- ---- another time
@@ -42,8 +42,8 @@ retimed edges slots D T f = record {
 }
 
 pub retimed_keeps : {f : Flows} → Invariant f → (edges : List Edge) (slots : List Transfer) (drain until : Float) → ClockTime until → Plain drain → T (drain ≼ until) → (f.clock.rates_dirty ≡ true → drain ≡ until)
-    → EdgesSound edges f.num_edges → Alike f.in_flight slots → SameLoads f.in_flight slots → Each (SoundSlot (retimed edges slots drain until f)) free slots → Invariant (retimed edges slots drain until f)
-retimed_keeps {f} inv edges slots drain until time plain by_now stale sound alike loaded each =
+    → EdgesSound edges f.num_edges → Alike f.in_flight slots → Each (SoundSlot (retimed edges slots drain until f)) free slots → Invariant (retimed edges slots drain until f)
+retimed_keeps {f} inv edges slots drain until time plain by_now stale sound alike each =
     let p = parts inv in
     joined (record {
       tolerance = p.tolerance;
@@ -53,7 +53,7 @@ retimed_keeps {f} inv edges slots drain until time plain by_now stale sound alik
       crowd = same_crowd alike p.crowd;
       slots = each;
       totals = same_totals alike p.totals;
-      rates = same_rates loaded alike (retimed edges slots drain until f).clock edges (sound.places ∙ sym p.edges.places) refl refl p.rates;
+      rates = same_rates alike (retimed edges slots drain until f).clock edges (sound.places ∙ sym p.edges.places) refl refl p.rates;
     })
 
 -- ---- the edges
@@ -110,5 +110,4 @@ pass_time_keeps {until} {f} inv time later fresh =
     (λ e. absurd (true≢false (sym e ∙ fresh)))
     (busied_sound f (until ⊖ f.clock.now) f.in_flight f.edges p.slots p.crowd.path_room (elapsed p.clock.time.plain time later) p.edges)
     (record { same = refl })
-    (record { crossed = λ e. refl })
     (λ i. slot_in f g (omega arith) refl (p.slots i)))

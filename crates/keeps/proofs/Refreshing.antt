@@ -2,30 +2,27 @@
 -- Assumes nothing.
 use Prim.Native.Nat.{ℕ}
 use native.Mathlib.Omega.{arith}
-use mathlib.Core.Path.{◌≡◌, refl, sym, ap, ◌∙◌, subst}
-use mathlib.Core.Bool.{true, false, not, ◌&&◌, cond, true≢false}
+use mathlib.Core.Path.{◌≡◌, refl, sym, ◌∙◌, subst}
+use mathlib.Core.Bool.{true, false, true≢false}
 use mathlib.Core.List.{map}
-use lib.ListN.{get_or, take, length-map, get_or-map}
+use lib.ListN.{get_or, length-map, get_or-map}
 use lib.Seq.{ext_get_or}
 use lib.Ieee.{Float}
-use Rattle.doubles.specs.Doubles.{nought}
 use Rattle.rules.specs.declared.Limit.{Limit}
 use Rattle.rules.specs.declared.Limit.TheVariants.{Nowhere}
 use Rattle.rules.specs.declared.Transfer.{Transfer}
 use Rattle.rules.specs.declared.Flows.{Flows}
-use Rattle.rules.specs.Lists.{Each, sum, crossings}
-use Rattle.rules.specs.Records.{free, own_path, path_of, with_in_flight, with_edge_load, with_clock}
+use Rattle.rules.specs.Lists.{Each}
+use Rattle.rules.specs.Records.{free, path_of, with_in_flight, with_edge_load, with_clock}
 use Rattle.rules.specs.Filling.{takes_part, with_rate, recompute_rates}
-use Rattle.rules.specs.Clock.{counts_in_loads, crossings_by, edge_loads, with_rates, ensure_rates}
+use Rattle.rules.specs.Clock.{edge_loads, with_rates, ensure_rates}
 use Rattle.rules.specs.Fair.{rated}
 use Rattle.rules.specs.Invariant.{SoundTransfer, SoundSlot, Invariant}
-use Rattle.fairness.proofs.Reading.{Steady}
-use Rattle.fairness.proofs.Start.{paused_rests}
-use Rattle.fairness.proofs.Rates.{SoundRate, rated_length, rated_keeps, rated_is, rated_stays, rates_plain, few_rounds, rounds_in_slots}
+use Rattle.fairness.proofs.Rates.{SoundRate, rated_length, rated_keeps, rated_stays, rates_plain, few_rounds, rounds_in_slots}
 use Rattle.rules.proofs.Conds.{by_test}
 use Rattle.keeps.proofs.Waits.{next_sound}
 use Rattle.keeps.proofs.Parts.{parts, joined}
-use Rattle.keeps.proofs.Crowd.{who, Alike, same_taken, same_crowd, same_totals, SameLoads, same_loads}
+use Rattle.keeps.proofs.Crowd.{who, Alike, same_taken, same_crowd, same_totals, same_loads}
 use Rattle.keeps.proofs.Drained.{slot_in}
 
 -- A simulator with rates brought up to date, beside what it was.
@@ -39,9 +36,9 @@ pub record Refreshed (f g : Flows) : Type 0 where
   pub waiting : g.num_completed ≡ f.num_completed
   pub totals : g.totals ≡ f.totals
 
-rate_sound : {f : Flows} {t : Transfer} (rate : Float) (limit : Limit) → SoundTransfer f t → SoundRate (with_rate rate limit t) → (t.paused ≡ true → (rate ≡ nought) × (limit ≡ Nowhere)) → SoundTransfer f (with_rate rate limit t)
+rate_sound : {f : Flows} {t : Transfer} (rate : Float) (limit : Limit) → SoundTransfer f t → SoundRate (with_rate rate limit t) → SoundTransfer f (with_rate rate limit t)
 unfolding with_rate
-rate_sound rate limit s r still = record {
+rate_sound rate limit s r = record {
   path = s.path;
   latency = s.latency;
   bytes = s.bytes;
@@ -49,7 +46,6 @@ rate_sound rate limit s r still = record {
   cap = s.cap;
   rate = r.rate;
   rate_finite = r.rate_finite;
-  still = still;
   updated = s.updated;
 }
 
@@ -60,29 +56,17 @@ module _ (f : Flows) (inv : Invariant f) where
   abbrev after_at : ℕ → Transfer
   after_at i = get_or (rated f) i free
 
-  -- what a filling leaves of each transfer it leaves of all
-  each_rated : {A : Type 0} (g : Transfer → A) → Steady g → map g (rated f) ≡ map g f.in_flight
-  each_rated g kept = ext_get_or (g free) (map g (rated f)) (map g f.in_flight) (length-map (rated f) g ∙ rated_length f inv ∙ sym (length-map f.in_flight g)) (λ i l.
-      get_or-map g (rated f) i free ∙ rated_keeps f inv g kept i ∙ sym (get_or-map g f.in_flight i free))
-
   rated_alike : Alike f.in_flight (rated f)
   unfolding with_rate
-  rated_alike = record { same = each_rated who (λ rate limit t. refl) }
+  rated_alike = record {
+    same = ext_get_or (who free) (map who (rated f)) (map who f.in_flight) (length-map (rated f) who ∙ rated_length f inv ∙ sym (length-map f.in_flight who)) (λ i l.
+        get_or-map who (rated f) i free ∙ rated_keeps f inv who (λ rate limit t. refl) i ∙ sym (get_or-map who f.in_flight i free));
+  }
 
-  rated_loaded : SameLoads f.in_flight (rated f)
-  unfolding crossings_by counts_in_loads own_path with_rate
-  rated_loaded = record { crossed = λ e. ap sum (each_rated (λ t. cond (t.taken && not t.paused) (crossings e (take t.path.len t.path.hops)) 0) (λ rate limit t. refl)) }
-
-  -- a paused one takes no part, and so stays as it is
-  rated_paused : (i : ℕ) → (before_at i).taken ≡ true → (before_at i).paused ≡ true → after_at i ≡ before_at i
+  -- the transfer with its new rate and limit
+  rated_is : (i : ℕ) → after_at i ≡ with_rate (after_at i).rate (after_at i).limit (before_at i)
   unfolding with_rate
-  rated_paused i taken paused = rated_stays f inv i (paused_rests (before_at i) paused) ∙ ap (λ (l : Limit). with_rate (before_at i).rate l (before_at i)) (sym (((inv.slots i).held taken).still paused).1)
-
-  rated_still : (i : ℕ) → (before_at i).taken ≡ true → (before_at i).paused ≡ true → ((after_at i).rate ≡ nought) × ((after_at i).limit ≡ Nowhere)
-  rated_still i taken paused =
-      let stays = rated_paused i taken paused in
-      let was = ((inv.slots i).held taken).still paused in
-      (ap (λ (t : Transfer). t.rate) stays ∙ was.0, ap (λ (t : Transfer). t.limit) stays ∙ was.1)
+  rated_is i = rated_keeps f inv (with_rate (after_at i).rate (after_at i).limit) (λ rate limit t. refl) i
 
   free_rests : (t : Transfer) → t ≡ free → takes_part t ≡ false
   unfolding takes_part
@@ -96,8 +80,8 @@ module _ (f : Flows) (inv : Invariant f) where
   rated_each i = record {
     held = λ e.
         let taken : (before_at i).taken ≡ true = sym (same_taken rated_alike i) ∙ e in
-        let rate : SoundRate (with_rate (after_at i).rate (after_at i).limit (before_at i)) = subst SoundRate (rated_is f inv i) (rates_plain f inv i taken) in
-        subst (SoundTransfer f) (sym (rated_is f inv i)) (rate_sound (after_at i).rate (after_at i).limit ((inv.slots i).held taken) rate (rated_still i taken));
+        let rate : SoundRate (with_rate (after_at i).rate (after_at i).limit (before_at i)) = subst SoundRate (rated_is i) (rates_plain f inv i taken) in
+        subst (SoundTransfer f) (sym (rated_is i)) (rate_sound (after_at i).rate (after_at i).limit ((inv.slots i).held taken) rate);
     blank = λ e.
         let blank : before_at i ≡ free = (inv.slots i).blank (sym (same_taken rated_alike i) ∙ e) in
         rated_stays f inv i (free_rests (before_at i) blank) ∙ free_again (before_at i) blank;
@@ -116,7 +100,7 @@ module _ (f : Flows) (inv : Invariant f) where
         crowd = same_crowd rated_alike p.crowd;
         slots = λ i. slot_in f g (omega arith) refl (rated_each i);
         totals = same_totals rated_alike p.totals;
-        rates = record { right = λ e. sym (same_loads rated_loaded f.edges f.edges f.num_edges refl); few = λ e. few_rounds f inv };
+        rates = record { right = λ e. sym (same_loads rated_alike f.edges f.edges f.num_edges refl); few = λ e. few_rounds f inv };
       })
 
 pub as_it_was : {f : Flows} → Invariant f → Refreshed f f
@@ -130,9 +114,3 @@ ensure_rates_refreshes {f} inv = by_test (Refreshed f) f.clock.rates_dirty
 
 pub ensure_rates_keeps : {f : Flows} → Invariant f → Invariant (ensure_rates f)
 ensure_rates_keeps inv = (ensure_rates_refreshes inv).sound
-
--- a paused one stays as it is, filled or not
-pub paused_refreshed : {f : Flows} → Invariant f → (i : ℕ) → (get_or f.in_flight i free).taken ≡ true → (get_or f.in_flight i free).paused ≡ true → get_or (ensure_rates f).in_flight i free ≡ get_or f.in_flight i free
-unfolding ensure_rates with_rates with_in_flight with_edge_load with_clock
-paused_refreshed {f} inv i taken paused =
-    by_test (λ (g : Flows). get_or g.in_flight i free ≡ get_or f.in_flight i free) f.clock.rates_dirty (λ stale. rated_paused f inv i taken paused) refl

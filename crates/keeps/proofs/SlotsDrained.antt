@@ -1,6 +1,6 @@
 -- What draining all slots keeps: every slot is drained by itself, a free one stays, and nothing that is counted over the slots changes. Assumes nothing.
-use mathlib.Core.Path.{◌≡◌, refl, sym, subst}
-use mathlib.Core.Bool.{not, ◌&&◌, cond}
+use mathlib.Core.Path.{◌≡◌, refl, sym, ap, ◌∙◌, subst}
+use mathlib.Core.Bool.{Bool, cond}
 use mathlib.Core.List.{List, [], ◌∷◌, map}
 use Prim.Native.Nat.{ℕ, zero, suc, ◌≤◌}
 use native.Mathlib.Omega.{arith}
@@ -8,6 +8,7 @@ use lib.Dec.{T}
 use lib.ListN.{get_or, take}
 use lib.Ieee.{Float}
 use Rattle.doubles.specs.Doubles.{◌≼◌, Plain}
+use Rattle.rules.specs.declared.Route.{Route}
 use Rattle.rules.specs.declared.Transfer.{Transfer}
 use Rattle.rules.specs.declared.Flows.{Flows}
 use Rattle.rules.specs.Lists.{Each, sum, crossings}
@@ -36,8 +37,8 @@ sum_drained until m k (t ∷ slots) = omega (arith, k t (drained until t) (drain
 pub crossings_drained : (until : Float) (slots : List Transfer) (e : ℕ) → crossings_by counts_in_loads own_path (map (drained until) slots) e ≡ crossings_by counts_in_loads own_path slots e
 unfolding crossings_by counts_in_loads own_path
 crossings_drained until slots e =
-    sum_drained until (λ t. cond (t.taken && not t.paused) (crossings e (take t.path.len t.path.hops)) 0)
-    (λ t u s. rw (s.taken, s.paused, s.path) refl)
+    sum_drained until (λ t. cond t.taken (crossings e (take t.path.len t.path.hops)) 0)
+    (λ t u s. ap (λ (b : Bool). cond b (crossings e (take u.path.len u.path.hops)) 0) s.taken ∙ ap (λ (r : Route). cond t.taken (crossings e (take r.len r.hops)) 0) s.path)
     slots
 
 -- every slot stays sound, in a simulator with no fewer edges that was last drained at that time

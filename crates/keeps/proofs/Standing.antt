@@ -26,7 +26,6 @@ use Rattle.rules.specs.Edges.{edge_added, add_edge, edge_widened, widen}
 use Rattle.rules.specs.Submission.{submitted, submit_capped}
 use Rattle.rules.specs.Advance.{completed, done_list, quiet, list_done, advance}
 use Rattle.rules.specs.Cancel.{cancelled, cancel}
-use Rattle.rules.specs.Pause.{set_paused, pausing}
 use Rattle.rules.specs.Questions.{next_completion_delay, rate, bottleneck}
 use Rattle.rules.specs.TimeLeft.{settle}
 use Rattle.rules.specs.Histories.{typed_call, call, Turn, typed, after, run}
@@ -37,7 +36,6 @@ use Rattle.rules.proofs.Everything.{everything}
 use Rattle.rules.proofs.Fresh.{fresh_keeps, with_floor_keeps}
 use Rattle.keeps.proofs.Arguments.{time_clock, time_no_earlier}
 use Rattle.keeps.proofs.Refusing.{refused_or}
-use Rattle.keeps.proofs.Pausing.{pausing_or}
 use Rattle.keeps.proofs.Passing.{busied_capacity, pass_time_is}
 use Rattle.keeps.proofs.Draining.{each_drained, delivered_capacity, drain_to_keeps, drained_to_clock_keeps}
 use Rattle.keeps.proofs.Unmoved.{owners_still}
@@ -116,9 +114,6 @@ module _ (f : Flows) (inv : Invariant f) (stands : Stands f) where
       go true = unfold cancelled in stale _
       go false = stands
 
-  by_pausing : (paused : Bool) (id : ℕ) → Stands (pausing paused id f).flows
-  by_pausing paused id = pausing_or (λ (o : Outcome). Stands o.flows) paused id f stands stands (λ known asked. unfold set_paused in stale _)
-
   by_take : (owner : Owner) (buffer : List ℕ) → Stands (take_completed owner f buffer).outcome.flows
   unfolding take_completed
   by_take owner buffer = go (ids_for owner f)
@@ -132,8 +127,6 @@ module _ (f : Flows) (inv : Invariant f) (stands : Stands f) where
   by_call (Call_variants.Advance time) path buffer t = by_advance time buffer t
   by_call (Call_variants.Submit s) path buffer t = or_stale _ _ _ refl
   by_call (Call_variants.Cancel id) path buffer t = by_cancel id
-  by_call (Call_variants.Pause id) path buffer t = by_pausing true id
-  by_call (Call_variants.Resume id) path buffer t = by_pausing false id
   by_call (Call_variants.AddEdge capacity) path buffer t = or_stale _ _ _ refl
   by_call (Call_variants.Widen e amount) path buffer t = or_stale _ _ _ refl
   by_call (Call_variants.TakeCompleted owner) path buffer t = by_take owner buffer

@@ -74,7 +74,6 @@ module _ (id : ℕ) (owner : Owner) (path : List ℕ) (bytes : ℕ) (latency : F
         cap = s.capped;
         rate = plain_nonneg nought_plain;
         rate_finite = inl nought_plain;
-        still = λ paused. (refl, refl);
         updated = sym (reached.drained.at_clock ∙ reached.now);
       }
 

@@ -1,4 +1,4 @@
--- A call that says no has left the simulator and its buffer as they were: refusing hands back what came in, and so do a cancel, a pause or a resume that finds no such id, or one that is as asked already, and a take that finds nothing. Assumes
+-- A call that says no has left the simulator and its buffer as they were: refusing hands back what came in, and so do a cancel that finds no such id and a take that finds nothing. Assumes
 -- nothing.
 use Prim.Native.Nat.{ℕ}
 use mathlib.Core.Path.{◌≡◌, refl}
@@ -21,12 +21,10 @@ use Rattle.rules.specs.Edges as Edges
 use Rattle.rules.specs.Submission as Submission
 use Rattle.rules.specs.Advance as Advance
 use Rattle.rules.specs.Cancel as Cancel
-use Rattle.rules.specs.Pause.{pausing}
 use Rattle.rules.specs.Histories.{call}
 use Rattle.rules.specs.Unmoved.{is_no, says_no, touch, unmoved}
 use Rattle.rules.specs.Promises.{RefusalsMoveNothing, RefusalsWriteNothing}
 use Rattle.keeps.proofs.Refusing.{refused_or}
-use Rattle.keeps.proofs.Pausing.{pausing_or}
 
 -- An outcome that leaves f as it was wherever it says no.
 abbrev Still : Flows → Outcome → Type 0
@@ -51,10 +49,6 @@ still_cancel id f = go (Records.contains id f)
     go : (b : Bool) → Still f (cond b (answering Done (Cancel.cancelled id f)) (answering Unknown f))
     go true says = absurd says
     go false says = refl
-
-still_pausing : (paused : Bool) (id : ℕ) (f : Flows) → Still f (pausing paused id f)
-unfolding is_no
-still_pausing paused id f = pausing_or (Still f) paused id f (λ says. refl) (λ says. refl) (λ known asked says. absurd says)
 
 still_advance : (until : Float) (f : Flows) (buffer : List ℕ) → StillLent f buffer (Advance.advance until f buffer)
 unfolding Advance.advance Advance.list_done is_no
@@ -86,8 +80,6 @@ unfolding call touch unmoved says_no is_no Edges.add_edge Edges.widen Submission
 call_still (Call_variants.Advance time) path f buffer says = (still_advance time f buffer says).0
 call_still (Call_variants.Submit s) path f buffer says = refuses f _ _ (λ s. s) says
 call_still (Call_variants.Cancel id) path f buffer says = still_cancel id f says
-call_still (Call_variants.Pause id) path f buffer says = still_pausing true id f says
-call_still (Call_variants.Resume id) path f buffer says = still_pausing false id f says
 call_still (Call_variants.AddEdge capacity) path f buffer says = refuses f _ _ (λ s. s) says
 call_still (Call_variants.Widen e amount) path f buffer says = refuses f _ _ (λ s. s) says
 call_still (Call_variants.TakeCompleted owner) path f buffer says = (still_take owner f buffer says).0
@@ -109,8 +101,6 @@ unfolding call says_no
 call_unwritten (Call_variants.Advance time) path f buffer says = (still_advance time f buffer says).1
 call_unwritten (Call_variants.Submit s) path f buffer says = refl
 call_unwritten (Call_variants.Cancel id) path f buffer says = refl
-call_unwritten (Call_variants.Pause id) path f buffer says = refl
-call_unwritten (Call_variants.Resume id) path f buffer says = refl
 call_unwritten (Call_variants.AddEdge capacity) path f buffer says = refl
 call_unwritten (Call_variants.Widen e amount) path f buffer says = refl
 call_unwritten (Call_variants.TakeCompleted owner) path f buffer says = (still_take owner f buffer says).1

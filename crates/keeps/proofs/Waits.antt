@@ -29,10 +29,9 @@ pub data SoundDelay : Delay → Type 0 where
 pub time_sound : {f : Flows} {t : Transfer} (eps : Float) → SoundTransfer f t → SoundDelay (time_to_done eps t)
 unfolding time_to_done
 time_sound {f} {t} eps s =
-    by_test SoundDelay t.paused (λ _. never)
-    (by_test SoundDelay (is_done eps t) (λ _. after (plain_nonneg nought_plain))
+    by_test SoundDelay (is_done eps t) (λ _. after (plain_nonneg nought_plain))
     (by_test SoundDelay (t.bytes_remaining ≼ B) (λ _. after (plain_nonneg s.latency))
-    (by_test SoundDelay (nought ≺ t.rate) (λ h. after (sum_nonneg (plain_nonneg s.latency) (over_nonneg s.bytes s.rate h))) never)))
+    (by_test SoundDelay (nought ≺ t.rate) (λ h. after (sum_nonneg (plain_nonneg s.latency) (over_nonneg s.bytes s.rate h))) never))
 
 pub sooner_sound : {a b : Delay} → SoundDelay a → SoundDelay b → SoundDelay (sooner a b)
 unfolding sooner

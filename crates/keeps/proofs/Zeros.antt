@@ -66,8 +66,6 @@ unfolding call zeros_read Advance.advance Submission.submit_capped Edges.add_edg
 zeros_are_one (Call_variants.Advance time) path f buffer inv = simp as_read
 zeros_are_one (Call_variants.Submit s) path f buffer inv = simp as_read
 zeros_are_one (Call_variants.Cancel id) path f buffer inv = refl
-zeros_are_one (Call_variants.Pause id) path f buffer inv = refl
-zeros_are_one (Call_variants.Resume id) path f buffer inv = refl
 zeros_are_one (Call_variants.AddEdge capacity) path f buffer inv = simp as_read
 zeros_are_one (Call_variants.Widen e amount) path f buffer inv = simp (as_read, wider_read amount _ (inv.edges e))
 zeros_are_one (Call_variants.TakeCompleted owner) path f buffer inv = refl

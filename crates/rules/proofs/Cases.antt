@@ -1,7 +1,7 @@
 -- The cases hold: the definitions, computed on the fresh simulator, give what each table says. Assumes nothing.
 use mathlib.Core.Path.{◌≡◌, refl}
 use mathlib.Core.Bool.{true}
-use Rattle.rules.specs.Cases.{CasesHold, holds, vault_door, collection, edge_limit, both_sides, crossing_by_crossing, lowest_first, stalled_read, watched_read, watched_latency, AtNoRate, floor_cases, floor_holds, holds_coarsely, listed_early, latency_is_none, done_but_unlisted, three_reads, told_at_equality, told_none, menu_up, stands_still}
+use Rattle.rules.specs.Cases.{CasesHold, holds, vault_door, collection, edge_limit, both_sides, crossing_by_crossing, lowest_first, stalled_read, watched_read, watched_latency, AtNoRate, floor_cases, floor_holds, holds_coarsely, listed_early, latency_is_none, done_but_unlisted, three_reads, told_at_equality, told_none}
 use Rattle.rules.specs.Lists.{all}
 use Rattle.rules.proofs.Everything.{everything}
 
@@ -77,11 +77,3 @@ told_at_equality_holds = refl
 pub told_none_holds : holds told_none ≡ true
 unfolding everything
 told_none_holds = refl
-
-pub menu_up_holds : holds menu_up ≡ true
-unfolding everything
-menu_up_holds = refl
-
-pub stands_still_holds : holds stands_still ≡ true
-unfolding everything
-stands_still_holds = refl

@@ -8,8 +8,8 @@ use lib.IntN.{ℤ}
 use lib.Dec.{T, eqb, ltb→lt, eqb→eq}
 use lib.Ieee.{Float, nan, inf, fin, binary64, up, down, lt, le, of_bits, fits}
 use lib.Ieee.Fits.{and_r, down_pos}
-use Rattle.doubles.specs.Doubles.{◌≺◌, ◌≼◌, nought, Plain}
-use Rattle.rules.specs.Tolerance.{B, F, max_floor}
+use Rattle.doubles.specs.Doubles.{◌≺◌, ◌≼◌, nought}
+use Rattle.rules.specs.Tolerance.{F, max_floor}
 use Rattle.rules.specs.Invariant.{SoundFloor}
 use Rattle.rules.proofs.Everything.{everything}
 
@@ -37,8 +37,3 @@ sound_floor (fin false m e) held l u = record { plain = record { is_plain = tt; 
 pub default_floor : SoundFloor F
 unfolding everything
 default_floor = record { plain = record { is_plain = tt; is_held = tt }; no_finer = tt; no_coarser = tt }
-
--- and so are the bytes that count as none plain
-pub B_plain : Plain B
-unfolding everything
-B_plain = record { is_plain = tt; is_held = tt }

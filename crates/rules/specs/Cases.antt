@@ -10,12 +10,12 @@ use Rattle.rules.specs.declared.Delay.TheVariants.{After, Never}
 use Rattle.rules.specs.declared.Limit.{Limit}
 use Rattle.rules.specs.declared.Limit.TheVariants.{AtEdge, AtCap, Nowhere}
 use Rattle.rules.specs.declared.Answer.{Answer}
-use Rattle.rules.specs.declared.Answer.TheVariants.{Done, Added, Listed, Unknown, Already, CannotFinish, Value, Due, Limited, Refused}
+use Rattle.rules.specs.declared.Answer.TheVariants.{Done, Added, Listed, Unknown, CannotFinish, Value, Due, Limited, Refused}
 use Rattle.rules.specs.declared.EdgeRead.TheVariants.{Found}
 use Rattle.rules.specs.declared.Transfer.{Transfer}
 use Rattle.rules.specs.declared.Flows.{Flows}
 use Rattle.rules.specs.declared.Call.{Call}
-use Rattle.rules.specs.declared.Call.TheVariants.{Advance, Submit, Cancel, Pause, Resume, AddEdge, Widen, TakeCompleted, NextCompletionDelay, EstimateNew, Settle, Remaining, Rate, Bottleneck, Edge, Rounds}
+use Rattle.rules.specs.declared.Call.TheVariants.{Advance, Submit, Cancel, AddEdge, Widen, TakeCompleted, NextCompletionDelay, EstimateNew, Settle, Remaining, Rate, Bottleneck, Edge, Rounds}
 use Rattle.rules.specs.declared.Said.{Said}
 use Rattle.rules.specs.declared.Said.TheVariants as Said_variants
 use Rattle.rules.specs.Lists.{all}
@@ -374,9 +374,9 @@ watched_latency =
 
 -- A transfer of id 1 in flight with those bytes left and no rate.
 abbrev without_rate : Float → Transfer
-without_rate bytes = record { taken = true; paused = false; id = 1; owner = Handoff; path = route []; latency_remaining = nought; bytes_remaining = bytes; rate_cap = Uncapped; rate = nought; limit = Nowhere; last_update = nought }
+without_rate bytes = record { taken = true; id = 1; owner = Handoff; path = route []; latency_remaining = nought; bytes_remaining = bytes; rate_cap = Uncapped; rate = nought; limit = Nowhere; last_update = nought }
 
--- At no rate B bytes are done, and the next double above is stalled. The first is left only by a pause: bytes fall to B at some rate, and that rate is kept from then on unless the transfer is paused and resumed. (02, P1 and P8)
+-- At no rate B bytes are done, and the next double above is stalled. No call leaves the first: bytes fall to B at some rate, and that rate is kept from then on. (02, P1)
 abbrev pub AtNoRate : Type 0
 AtNoRate =
     (told_answer (remaining_in 1 Tolerance.F (without_rate Tolerance.B ∷ [])) ≡ told_answer (Value nought))
@@ -518,58 +518,6 @@ told_none =
     ∷ runs_at 2 10
     ∷ limited_by 3 Nowhere
     ∷ runs_at 3 5
-    ∷ []
-
--- ---- pauses
-
--- A menu is up from 4 to 14 s: one of two reads stands still meanwhile, at no rate and with no end in sight, and the other has the drive to itself. What says already or unknown does not even drain. (02, P8)
-abbrev pub menu_up : List Step
-menu_up =
-    new_edge 0 10
-    ∷ sent 1 (0 ∷ []) 100 0 Uncapped
-    ∷ sent 2 (0 ∷ []) 200 0 Uncapped
-    ∷ runs_at 1 5
-    ∷ lists_nobody 4
-    ∷ Pause 1 answers Done
-    ∷ runs_at 1 0
-    ∷ limited_by 1 Nowhere
-    ∷ current 1 CannotFinish
-    ∷ runs_at 2 10
-    ∷ estimating (0 ∷ []) (whole 50) nought Uncapped (Value (whole 10))
-    ∷ Pause 1 answers Already
-    ∷ Resume 2 answers Already
-    ∷ Pause 3 answers Unknown
-    ∷ submitting 1 (Worker 0) (0 ∷ []) 5 nought Uncapped (whole 4) (Refused 6)
-    ∷ lists_nobody 14
-    ∷ Resume 2 answers Already
-    ∷ Resume 3 answers Unknown
-    ∷ edge_is 0 10 40 18
-    ∷ Resume 1 answers Done
-    ∷ edge_is 0 10 140 18
-    ∷ lagging 1 CannotFinish
-    ∷ runs_at 1 5
-    ∷ runs_at 2 5
-    ∷ current 1 (Value (whole 16))
-    ∷ []
-
--- Neither latency nor bytes move while a transfer is paused, and one with no bytes left is not done. Resumed it has no rate, and without bytes it is given none; done it is all the same. (02, P8)
-abbrev pub stands_still : List Step
-stands_still =
-    new_edge 0 10
-    ∷ sent 1 (0 ∷ []) 100 3 Uncapped
-    ∷ sent 2 [] 0 0 Uncapped
-    ∷ Pause 1 answers Done
-    ∷ Pause 2 answers Done
-    ∷ lists_nobody 5
-    ∷ delay_is Never
-    ∷ lists_nobody 20
-    ∷ edge_is 0 10 0 0
-    ∷ Resume 2 answers Done
-    ∷ lists_one 20 2
-    ∷ Resume 1 answers Done
-    ∷ delay_is (After (whole 13))
-    ∷ lists_one 33 1
-    ∷ edge_is 0 10 100 13
     ∷ []
 
 -- ---- the last number of a kind

@@ -1,5 +1,5 @@
 -- Bringing rates up to date, and draining to a time. (01, Clock) Definitions only.
-use Rattle.std.specs.Prelude.{ℕ, zero, suc, Bool, false, not, ◌&&◌, cond, Float}
+use Rattle.std.specs.Prelude.{ℕ, zero, suc, Bool, false, ◌&&◌, cond, Float}
 use mathlib.Core.List.{List, map, foldl}
 use Rattle.doubles.specs.Doubles.{◌⊕◌, ◌⊖◌, ◌⊗◌, ◌≺◌, nought, smaller, whole}
 use Rattle.rules.specs.declared.Delay.{Delay}
@@ -26,15 +26,15 @@ unfoldable pub ahead : Float → Delay → NextDone
 ahead now Never = Nobody
 ahead now (After d) = At (now ⊕ d)
 
--- Whether a transfer's crossings count in the busy time of edges: those in flight do, but for the paused. (01, Clock; 02, P8)
+-- Whether a transfer's crossings count in the busy time of edges: all in flight do. (01, Clock)
 unfoldable pub counts_in_loads : Transfer → Bool
-counts_in_loads t = t.taken && not t.paused
+counts_in_loads t = t.taken
 
 -- The crossings of edge e by the transfers that pass a test. (01, Clock and Questions)
 unfoldable pub crossings_by : (Transfer → Bool) → (Transfer → List ℕ) → List Transfer → ℕ → ℕ
 crossings_by p path slots e = sum (map (λ t. cond (p t) (crossings e (path t)) 0) slots)
 
--- The crossings of each edge by all that count, and how many edges there are. (01, Clock)
+-- The crossings of each edge by all in flight, and how many edges there are. (01, Clock)
 unfoldable pub edge_loads : Flows → EdgeLoad
 edge_loads f = record { load = map_from 0 (λ e edge. crossings_by counts_in_loads (path_of f) f.in_flight e) f.edges; len = f.num_edges }
 
@@ -56,17 +56,13 @@ ensure_rates f = cond f.clock.rates_dirty (with_rates (recompute_rates (path_of 
 
 -- ---- one transfer drained to the time T
 
--- The time that a drain has for a transfer: what has passed since its last one, and none while it is paused, so that neither latency nor bytes move then. (01, Clock; 02, P8)
-unfoldable pub drain_time : Float → Transfer → Float
-drain_time T t = cond t.paused nought (T ⊖ t.last_update)
-
--- What the latency takes of that time. (01, Clock)
+-- What the latency takes of the time since the transfer's last drain. (01, Clock)
 unfoldable pub latency_paid : Float → Transfer → Float
-latency_paid T t = smaller t.latency_remaining (drain_time T t)
+latency_paid T t = smaller t.latency_remaining (T ⊖ t.last_update)
 
 -- The time that is left for bytes to flow. (01, Clock)
 unfoldable pub flowing_time : Float → Transfer → Float
-flowing_time T t = drain_time T t ⊖ latency_paid T t
+flowing_time T t = T ⊖ t.last_update ⊖ latency_paid T t
 
 -- Whether the transfer moves bytes in the drain. (01, Clock)
 unfoldable pub moves : Float → Transfer → Bool
@@ -82,7 +78,6 @@ drained T t =
     cond t.taken
     (record {
       taken = t.taken;
-      paused = t.paused;
       id = t.id;
       owner = t.owner;
       path = t.path;
@@ -112,7 +107,7 @@ gain_busy dt (suc n) e = record { capacity = e.capacity; bytes_moved = e.bytes_m
 
 -- ---- the simulator
 
--- Time passes to T: load integrals grow by the crossings of all that count, and the clock moves. (01, Clock)
+-- Time passes to T: load integrals grow by the crossings of all in flight, and the clock moves. (01, Clock)
 unfoldable pub pass_time : Float → Flows → Flows
 pass_time T f =
     let dt = T ⊖ f.clock.now in
@@ -134,6 +129,6 @@ drain_to T f = pass_time T (drain_slots T (cond (f.clock.now ≺ T) (ensure_rate
 abbrev pub settled : Float → Flows → Flows
 settled T f = ensure_rates (drain_to T f)
 
--- The simulator drained to its clock, as every change of edges, every known cancel and every pause or resume that does its work begins. (01, Departures; 02, P8)
+-- The simulator drained to its clock, as every change of edges and every known cancel begins. (01, Departures)
 unfoldable pub drained_to_clock : Flows → Flows
 drained_to_clock f = drain_to f.clock.now f

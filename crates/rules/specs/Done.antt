@@ -1,5 +1,5 @@
 -- Being done, and the time until then. (01, Tolerance) Definitions only.
-use Rattle.std.specs.Prelude.{Bool, not, ◌&&◌, ◌||◌, cond, Float}
+use Rattle.std.specs.Prelude.{Bool, ◌&&◌, ◌||◌, cond, Float}
 use Rattle.doubles.specs.Doubles.{◌⊕◌, ◌⊘◌, ◌≺◌, ◌≼◌, nought}
 use Rattle.rules.specs.declared.Delay.{Delay}
 use Rattle.rules.specs.declared.Delay.TheVariants.{After, Never}
@@ -11,18 +11,17 @@ use Rattle.rules.specs.Tolerance.{B, eps}
 unfoldable pub done_eps : Flows → Float
 done_eps f = eps f.tolerance f.clock.now
 
--- A transfer is done: its latency is paid within eps, and so are its bytes, for they count as none or would be gone within eps. While paused it is not, whatever is left. (01, Tolerance; 02, P8)
+-- A transfer is done: its latency is paid within eps, and so are its bytes, for they count as none or would be gone within eps. (01, Tolerance)
 unfoldable pub is_done : Float → Transfer → Bool
-is_done eps t = not t.paused && (t.latency_remaining ≼ eps && (t.bytes_remaining ≼ B || nought ≺ t.rate && t.bytes_remaining ⊘ t.rate ≼ eps))
+is_done eps t = t.latency_remaining ≼ eps && (t.bytes_remaining ≼ B || nought ≺ t.rate && t.bytes_remaining ⊘ t.rate ≼ eps)
 
--- The time until a transfer is done at its rate: no time if it is, else its latency, with the time for its bytes where they count; never while it is paused. (01, Tolerance; 02, P8)
+-- The time until a transfer is done at its rate: no time if it is, else its latency, with the time for its bytes where they count. (01, Tolerance)
 unfoldable pub time_to_done : Float → Transfer → Delay
 time_to_done eps t =
-    cond t.paused Never
-    (cond (is_done eps t) (After nought)
+    cond (is_done eps t) (After nought)
     (cond (t.bytes_remaining ≼ B) (After t.latency_remaining)
     (cond (nought ≺ t.rate) (After (t.latency_remaining ⊕ t.bytes_remaining ⊘ t.rate))
-    Never)))
+    Never))
 
 -- The earlier of two delays; the first at equality. (01, Clock)
 unfoldable pub sooner : Delay → Delay → Delay

@@ -1,5 +1,5 @@
--- Demand 3, and why nobody is faster: what every filling promises, in exact values. (01, How far each contract reaches; 02, P4 and P8) Statements only.
--- The demand in words. Look at the transfers that aren't paused, with more than B bytes left and a path that isn't empty. For an edge let C be its capacity, k how often they cross it in all, repeats
+-- Demand 3, and why nobody is faster: what every filling promises, in exact values. (01, How far each contract reaches; 02, P4) Statements only.
+-- The demand in words. Look at the transfers with more than B bytes left and a path that isn't empty. For an edge let C be its capacity, k how often they cross it in all, repeats
 -- counted, and slack k + 1 times (C / 2^52 + 2^-1074). Then, in exact values: nobody runs above its cap, nor above the capacity of any edge on its path; on every edge their rates, added up
 -- crossing by crossing, are at most C plus slack; everybody runs at exactly its cap, or at no less than C / k minus slack for some edge on its path; and there were at most as many
 -- rounds as there are such transfers. A fraction over k is multiplied out.
@@ -24,7 +24,7 @@ unfoldable pub C : List Edge → ℕ → ℕ
 C edges e = exact (get_or edges e blank_edge).capacity
 
 module _ (path : Transfer → List ℕ) where
-  -- The transfers of the demand: not paused, more than B bytes left, and a path that isn't empty.
+  -- The transfers of the demand: more than B bytes left, and a path that isn't empty.
   unfoldable pub in_demand : Transfer → Bool
   in_demand t = takes_part t && ltb 0 (length (path t))
 

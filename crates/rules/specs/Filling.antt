@@ -1,6 +1,6 @@
 -- Rates that are max-min fair, worked out round by round. (01, Filling) Definitions only.
 -- A seat is a slot during the filling: unfrozen while a round has yet to give its transfer a rate.
-use Rattle.std.specs.Prelude.{ℕ, zero, suc, Bool, true, false, not, ◌&&◌, cond, eqb, ltb, get_or, Float}
+use Rattle.std.specs.Prelude.{ℕ, zero, suc, Bool, true, false, ◌&&◌, cond, eqb, ltb, get_or, Float}
 use mathlib.Core.List.{List, [], ◌∷◌, map, foldl}
 use Rattle.doubles.specs.Doubles.{◌⊖◌, ◌⊘◌, ◌≺◌, nought, infinity, larger, whole}
 use Rattle.rules.specs.declared.Cap.{Cap}
@@ -27,13 +27,13 @@ pub record Filling : Type 0 where
 
 -- ---- who takes part
 
--- Whether a transfer takes part in a filling: in flight and not paused, with more than B bytes left. (01, Filling; 02, P8)
+-- Whether a transfer takes part in a filling: in flight, with more than B bytes left. (01, Filling)
 unfoldable pub takes_part : Transfer → Bool
-takes_part t = t.taken && (not t.paused && B ≺ t.bytes_remaining)
+takes_part t = t.taken && B ≺ t.bytes_remaining
 
 -- A transfer at another rate, with the reason why it is no higher. (01, Filling; 02, P4)
 unfoldable pub with_rate : Float → Limit → Transfer → Transfer
-with_rate rate limit t = record { taken = t.taken; paused = t.paused; id = t.id; owner = t.owner; path = t.path; latency_remaining = t.latency_remaining; bytes_remaining = t.bytes_remaining; rate_cap = t.rate_cap; rate = rate; limit = limit; last_update = t.last_update }
+with_rate rate limit t = record { taken = t.taken; id = t.id; owner = t.owner; path = t.path; latency_remaining = t.latency_remaining; bytes_remaining = t.bytes_remaining; rate_cap = t.rate_cap; rate = rate; limit = limit; last_update = t.last_update }
 
 -- The rate of a transfer that shares no edge: its cap, or no limit at all. (01, Filling)
 unfoldable pub lone_rate : Cap → Float

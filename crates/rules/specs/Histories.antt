@@ -8,7 +8,7 @@ use Rattle.rules.specs.declared.Cap.TheVariants.{AtMost, Uncapped}
 use Rattle.rules.specs.declared.Outcome.{Outcome}
 use Rattle.rules.specs.declared.Flows.{Flows}
 use Rattle.rules.specs.declared.Call.{Call}
-use Rattle.rules.specs.declared.Call.TheVariants.{Advance, Submit, Cancel, Pause, Resume, AddEdge, Widen, TakeCompleted, OwnersWithCompletions, NextCompletionDelay, EstimateNew, Settle, Remaining, MeanInFlight, Rate, Bottleneck, Edge, Contains, Rounds}
+use Rattle.rules.specs.declared.Call.TheVariants.{Advance, Submit, Cancel, AddEdge, Widen, TakeCompleted, OwnersWithCompletions, NextCompletionDelay, EstimateNew, Settle, Remaining, MeanInFlight, Rate, Bottleneck, Edge, Contains, Rounds}
 use Rattle.rules.specs.declared.Said.{Said}
 use Rattle.rules.specs.declared.Said.TheVariants as Said_variants
 use Rattle.rules.specs.declared.Made.{Made}
@@ -20,7 +20,6 @@ use Rattle.rules.specs.Edges.{add_edge, widen}
 use Rattle.rules.specs.Submission.{submit_capped}
 use Rattle.rules.specs.Advance.{advance}
 use Rattle.rules.specs.Cancel.{cancel}
-use Rattle.rules.specs.Pause.{pause, resume}
 use Rattle.rules.specs.Questions.{next_completion_delay, estimate_new_capped, mean_in_flight, rate, bottleneck, edge}
 use Rattle.rules.specs.TimeLeft.{settle, remaining}
 
@@ -54,8 +53,6 @@ unfoldable pub call : Call → List ℕ → Flows → List ℕ → Left
 call (Advance T) path f buffer = listing (advance T f buffer)
 call (Submit s) path f buffer = unlent (changing (submit_capped s.id s.owner path s.bytes s.latency s.cap s.time f)) buffer
 call (Cancel id) path f buffer = unlent (changing (cancel id f)) buffer
-call (Pause id) path f buffer = unlent (changing (pause id f)) buffer
-call (Resume id) path f buffer = unlent (changing (resume id f)) buffer
 call (AddEdge capacity) path f buffer = unlent (changing (add_edge capacity f)) buffer
 call (Widen e amount) path f buffer = unlent (changing (widen e amount f)) buffer
 call (TakeCompleted owner) path f buffer = listing (take_completed owner f buffer)
@@ -83,8 +80,6 @@ unfoldable pub typed_call : Call → Bool
 typed_call (Advance T) = fits binary64 T
 typed_call (Submit s) = fits binary64 s.latency && (typed_cap s.cap && fits binary64 s.time)
 typed_call (Cancel id) = true
-typed_call (Pause id) = true
-typed_call (Resume id) = true
 typed_call (AddEdge capacity) = fits binary64 capacity
 typed_call (Widen e amount) = fits binary64 amount
 typed_call (TakeCompleted owner) = true
@@ -105,8 +100,6 @@ unfoldable pub zeros_read : Call → Call
 zeros_read (Advance T) = Advance (read_zero T)
 zeros_read (Submit s) = Submit (record { id = s.id; owner = s.owner; bytes = s.bytes; latency = read_zero s.latency; cap = read_cap s.cap; time = read_zero s.time })
 zeros_read (Cancel id) = Cancel id
-zeros_read (Pause id) = Pause id
-zeros_read (Resume id) = Resume id
 zeros_read (AddEdge capacity) = AddEdge (read_zero capacity)
 zeros_read (Widen e amount) = Widen e (read_zero amount)
 zeros_read (TakeCompleted owner) = TakeCompleted owner

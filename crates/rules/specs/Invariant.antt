@@ -1,11 +1,10 @@
 -- The invariant of a simulator: what holds at the start and after every call. It is the one premise of every function that users are handed (crate `flows`); what an inner function asks of a
 -- table or an argument by itself is listed, with its reason, in docs/PREMISES.md. (01, How far each contract reaches) Statements only.
 use Rattle.std.specs.Prelude.{ℕ, ◌+◌, ◌^◌, ◌≤◌, ◌<◌, ◌≡◌, ◌⊎◌, Bool, true, false, ◌&&◌, List, map, T, eqb, ltb, length, get_or, Float}
-use Rattle.doubles.specs.Doubles.{◌≼◌, nought, whole, Plain, Nonneg}
+use Rattle.doubles.specs.Doubles.{◌≼◌, whole, Plain, Nonneg}
 use Rattle.rules.specs.declared.Owner.{Owner}
 use Rattle.rules.specs.declared.Cap.{Cap}
 use Rattle.rules.specs.declared.Cap.TheVariants.{AtMost, Uncapped}
-use Rattle.rules.specs.declared.Limit.TheVariants.{Nowhere}
 use Rattle.rules.specs.declared.NextDone.{NextDone}
 use Rattle.rules.specs.declared.NextDone.TheVariants.{At, Nobody}
 use Rattle.rules.specs.declared.Edge.{Edge}
@@ -72,8 +71,6 @@ pub record SoundTransfer (f : Flows) (t : Transfer) : Type 0 where
   pub rate : Nonneg t.rate
   -- infinite only where it shares no edge and has no cap
   pub rate_finite : Plain t.rate ⊎ (t.path.len ≡ 0) × (t.rate_cap ≡ Uncapped)
-  -- a paused one has no rate, and nothing limits it (02, P8)
-  pub still : t.paused ≡ true → (t.rate ≡ nought) × (t.limit ≡ Nowhere)
   -- all in flight have been drained up to one time
   pub updated : t.last_update ≡ f.clock.last_drain
 

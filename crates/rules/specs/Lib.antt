@@ -11,7 +11,6 @@ pub mod Edges
 pub mod Submission
 pub mod Advance
 pub mod Cancel
-pub mod Pause
 pub mod Questions
 pub mod TimeLeft
 pub mod Histories

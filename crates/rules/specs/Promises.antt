@@ -1,39 +1,37 @@
 -- What is promised of every history of calls on a fresh simulator, whatever its floor, refused calls among them. (01, How far each contract reaches; 02, P5) Statements only.
-use Rattle.std.specs.Prelude.{ℕ, ◌≡◌, ◌⊎◌, ◌↔◌, Bool, true, false, not, ◌&&◌, ◌||◌, cond, List, ◌++◌, map, T, ltb, length, get_or, Float}
+use Rattle.std.specs.Prelude.{ℕ, ◌≡◌, ◌⊎◌, ◌↔◌, Bool, true, false, not, ◌&&◌, ◌||◌, List, ◌++◌, map, T, ltb, length, get_or, Float}
 use Rattle.std.specs.Float.{binary64}
 use Rattle.std.specs.Float.Ieee.{fits}
 use Rattle.doubles.specs.Doubles.{◌≺◌, nought, read_zero}
 use Rattle.rules.specs.declared.Owner.{Owner}
 use Rattle.rules.specs.declared.Cap.{Cap}
-use Rattle.rules.specs.declared.Limit.TheVariants.{Nowhere}
 use Rattle.rules.specs.declared.Delay.TheVariants.{Never}
 use Rattle.rules.specs.declared.Transfer.{Transfer}
 use Rattle.rules.specs.declared.Answer.{Answer}
 use Rattle.rules.specs.declared.NextDone.TheVariants.{Nobody}
-use Rattle.rules.specs.declared.Answer.TheVariants.{Done, Unknown, CannotFinish, Value, Limited}
+use Rattle.rules.specs.declared.Answer.TheVariants.{Done, Unknown, CannotFinish, Value}
 use Rattle.rules.specs.declared.Outcome.{Outcome}
 use Rattle.rules.specs.declared.Seat.{Seat}
 use Rattle.rules.specs.declared.Flows.{Flows}
 use Rattle.rules.specs.declared.Call.{Call}
 use Rattle.rules.specs.Lists.{those, any, all}
 use Rattle.rules.specs.Tolerance.{B, F, default_tolerance}
-use Rattle.rules.specs.Records.{free, fresh, path_of, has_id, contains, with_in_flight, with_clock, made_stale, with_tolerance}
+use Rattle.rules.specs.Records.{free, fresh, path_of, has_id, contains, with_clock, with_tolerance}
 use Rattle.rules.specs.Done.{done_eps, is_done, time_to_done}
-use Rattle.rules.specs.Filling.{takes_part, with_rate, Filling, num_unfrozen, start, load, rounds_until, recompute_rates}
+use Rattle.rules.specs.Filling.{Filling, num_unfrozen, start, load, rounds_until, recompute_rates}
 use Rattle.rules.specs.Clock.{ensure_rates, drain_to, drained_to_clock}
 use Rattle.rules.specs.Refusals.{answering, ascending, not_a_time, short_buffer}
 use Rattle.rules.specs.Floors.{floor_causes, with_floor}
 use Rattle.rules.specs.Edges.{add_edge_causes, widen_causes}
 use Rattle.rules.specs.Submission.{submit_causes}
-use Rattle.rules.specs.Advance.{done_list, advance_causes}
-use Rattle.rules.specs.Pause.{pause, resume}
-use Rattle.rules.specs.Questions.{estimate_causes, estimate_new_capped, edge_causes, mean_causes, rate, bottleneck}
+use Rattle.rules.specs.Advance.{advance_causes}
+use Rattle.rules.specs.Questions.{estimate_causes, edge_causes, mean_causes}
 use Rattle.rules.specs.TimeLeft.{settle, remaining_in, behind, remaining}
 use Rattle.rules.specs.Histories.{call, zeros_read, Turn, typed, after, run, run_with_floor, journal}
 use Rattle.rules.specs.Invariant.{Invariant}
 use Rattle.rules.specs.Fair.{rated, FairFilling, ExplainedFilling, NobodySlowerFilling}
 use Rattle.rules.specs.Tallies.{Tallied}
-use Rattle.rules.specs.Unmoved.{says_no, touch, unmoved, only_reads, wakes}
+use Rattle.rules.specs.Unmoved.{says_no, touch, unmoved, only_reads}
 
 -- ---- over every history, from a simulator made with any floor; a floor that is refused gives the default one
 
@@ -65,7 +63,7 @@ AlwaysNobodySlower = (floor : Float) (turns : List Turn) → T (fits binary64 fl
 
 -- What a slot keeps from one filling to the next: all but what is left of its latency and its bytes, and the time of its last drain. (02, P4)
 abbrev pub standing : Transfer → Transfer
-standing t = record { taken = t.taken; paused = t.paused; id = t.id; owner = t.owner; path = t.path; latency_remaining = nought; bytes_remaining = nought; rate_cap = t.rate_cap; rate = t.rate; limit = t.limit; last_update = nought }
+standing t = record { taken = t.taken; id = t.id; owner = t.owner; path = t.path; latency_remaining = nought; bytes_remaining = nought; rate_cap = t.rate_cap; rate = t.rate; limit = t.limit; last_update = nought }
 
 -- A simulator's slots and capacities are as a filling left them, that of a simulator with the invariant. (02, P4)
 pub record AsFilled (f : Flows) : Type 0 where
@@ -130,65 +128,17 @@ pub record TellsTimeLeft (id : ℕ) (f : Flows) (answer : Answer) : Type 0 where
   pub done : (answer ≡ Value nought) ↔ InFlight id f (λ t. T (is_done (done_eps f) t))
   pub others_above : (x : Float) → answer ≡ Value x → (x ≡ nought) ⊎ T (done_eps f ≺ x)
   pub eps_above : T (nought ≺ done_eps f)
-  -- cannot finish: the time to done is never, that is, it is paused, or bytes are left and the rate is 0
+  -- cannot finish: the time to done is never, that is, bytes are left and the rate is 0
   pub never : (answer ≡ CannotFinish) ↔ InFlight id f (λ t. time_to_done (done_eps f) t ≡ Never)
-  pub stalled : (answer ≡ CannotFinish) ↔ InFlight id f (λ t. (t.paused ≡ true) ⊎ T (B ≺ t.bytes_remaining) × (t.rate ≡ nought))
+  pub stalled : (answer ≡ CannotFinish) ↔ InFlight id f (λ t. T (B ≺ t.bytes_remaining) × (t.rate ≡ nought))
 
 -- The three answers on the time left mean what they say, of the simulator as it stands. (02, P1 and P10)
 abbrev pub TimeLeftTold : Type 0
 TimeLeftTold = (id : ℕ) (f : Flows) → Invariant f → TellsTimeLeft id f (remaining id f).answer
 
--- A transfer as it was but for the time up to which it has been drained.
-abbrev pub at_drain : Float → Transfer → Transfer
-at_drain T t = record { taken = t.taken; paused = t.paused; id = t.id; owner = t.owner; path = t.path; latency_remaining = t.latency_remaining; bytes_remaining = t.bytes_remaining; rate_cap = t.rate_cap; rate = t.rate; limit = t.limit; last_update = T }
-
--- A paused transfer keeps its slot and all that it has, latency and bytes with the rest, through any calls but its own cancel and resume; its last time alone follows each drain. (02, P8)
-abbrev pub PausedKeeps : Type 0
-PausedKeeps = (f : Flows) (turns : List Turn) → Invariant f → T (all typed turns) → (i : ℕ) → let t = get_or f.in_flight i free in t.paused ≡ true → T (all (λ u. not (wakes t.id u.call)) turns)
-    → let g = run f turns in get_or g.in_flight i free ≡ at_drain g.clock.last_drain t
-
--- What is told of a paused transfer: no rate, nothing that limits it, no time that is enough, and that it is there. (02, P8)
-pub record ToldPaused (id : ℕ) (f : Flows) : Type 0 where
-  pub rate : (rate id f).answer ≡ Value nought
-  pub bottleneck : (bottleneck id f).answer ≡ Limited Nowhere
-  pub remaining : (remaining id f).answer ≡ CannotFinish
-  pub contains : contains id f ≡ true
-
--- So it is of everybody who is paused. (02, P8)
-abbrev pub PausedTold : Type 0
-PausedTold = (id : ℕ) (f : Flows) → Invariant f → InFlight id f (λ t. t.paused ≡ true) → ToldPaused id f
-
--- The simulator with its paused transfers taken out by hand. (02, P8)
-abbrev pub without_paused : Flows → Flows
-without_paused f = with_in_flight (map (λ t. cond t.paused free t) f.in_flight) f
-
--- The others go on as if the paused were not there: rates, loads and next_done of a filling, what a drain moves with the load integrals, who is done, and every estimate. (02, P8)
-pub record AsIfAbsent (f : Flows) : Type 0 where
-  pub filled : ensure_rates (without_paused f) ≡ without_paused (ensure_rates f)
-  pub drained : (to : Float) → drain_to to (without_paused f) ≡ without_paused (drain_to to f)
-  pub done : done_list (without_paused f) ≡ done_list f
-  pub estimated : (path : List ℕ) (bytes latency : Float) (cap : Cap) → estimate_new_capped path bytes latency cap (without_paused f) ≡ estimate_new_capped path bytes latency cap f
-
--- So it is of every simulator, as it stands or brought up to date. (02, P8)
-abbrev pub PausedAbsent : Type 0
-PausedAbsent = (f : Flows) → Invariant f → AsIfAbsent f
-
--- A transfer paused and resumed at one clock. (02, P8)
-pub record PausedAndResumed (id : ℕ) (f : Flows) : Type 0 where
-  pub paused : (pause id f).answer ≡ Done
-  -- the simulator has been drained to its clock, its rates are stale, and that transfer has neither rate nor limit: nothing else has changed
-  pub resumed : let d = drained_to_clock f in resume id (pause id f).flows ≡ answering Done (made_stale (with_in_flight (map (λ t. cond (has_id id t) (with_rate nought Nowhere t) t) d.in_flight) d))
-  -- and rates filled, it is as after a drain and a filling; but where that transfer takes no part any more, its rate stays 0
-  pub filled : let g = ensure_rates (made_stale (drained_to_clock f)) in
-      ensure_rates (resume id (pause id f).flows).flows ≡ with_in_flight (map (λ t. cond (has_id id t && not (takes_part t)) (with_rate nought Nowhere t) t) g.in_flight) g
-
--- So it is with everybody who is in flight and not paused. (02, P8)
-abbrev pub PauseUndone : Type 0
-PauseUndone = (id : ℕ) (f : Flows) → Invariant f → InFlight id f (λ t. t.paused ≡ false) → PausedAndResumed id f
-
 -- ---- over every simulator at all
 
--- A call that is refused, an id that is unknown or as asked already and a take with nothing waiting leave the simulator as it was, and a question that only reads does, whatever it says. (01, Numbers; 02, P8 and P10)
+-- A call that is refused, an id that is unknown and a take with nothing waiting leave the simulator as it was, and a question that only reads does, whatever it says. (01, Numbers; 02, P10)
 abbrev pub RefusalsMoveNothing : Type 0
 RefusalsMoveNothing = (t : Turn) (f : Flows) → T (unmoved (touch t.call) (after t f).made.said) → (after t f).made.flows ≡ f
 

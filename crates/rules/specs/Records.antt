@@ -7,7 +7,7 @@
 --   completed  owner `Worker 3` and id 9 at place 0, `blank_completion` at places 1 to 255;  num_completed  1
 --   edge_load  2 at place 0, 0 at places 1 to 63, once rates are up to date;  len  1
 -- Prepared for later requests, and of no other use yet: `path_of`, which gets the simulator and reads nothing of it but the transfer's own
--- path; the bound on all paths together (`path_room`, Invariant).
+-- path; `counts_in_loads` (Clock), which all in flight pass; the bound on all paths together (`path_room`, Invariant).
 use Rattle.std.specs.Prelude.{ℕ, ◌-◌, Bool, true, false, ◌&&◌, ◌||◌, cond, List, [], ◌∷◌, ◌++◌, eqb, ltb, length, take, replicate, Float}
 use Rattle.doubles.specs.Doubles.{nought}
 use Rattle.rules.specs.declared.Owner.{Owner}
@@ -56,7 +56,6 @@ route path = record { hops = path ++ replicate (max_path - length path) 0; len =
 abbrev pub free : Transfer
 free = record {
   taken = false;
-  paused = false;
   id = 0;
   owner = Handoff;
   path = record { hops = replicate max_path 0; len = 0 };

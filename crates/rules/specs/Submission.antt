@@ -1,5 +1,5 @@
 -- Submission: a transfer starts. (01, Numbers and Clock) Definitions only.
-use Rattle.std.specs.Prelude.{ℕ, ◌+◌, ◌-◌, ◌^◌, max, true, false, ◌||◌, cond, List, [], ◌∷◌, ltb, eqb, Float}
+use Rattle.std.specs.Prelude.{ℕ, ◌+◌, ◌-◌, ◌^◌, max, true, ◌||◌, cond, List, [], ◌∷◌, ltb, eqb, Float}
 use Rattle.doubles.specs.Doubles.{◌⊕◌, ◌≺◌, nought, larger, whole, read_zero}
 use Rattle.rules.specs.declared.Owner.{Owner}
 use Rattle.rules.specs.declared.Cap.{Cap}
@@ -37,7 +37,6 @@ submit_causes id owner path bytes latency cap T f =
 unfoldable pub submitted_transfer : ℕ → Owner → List ℕ → ℕ → Float → Cap → Float → Transfer
 submitted_transfer id owner path bytes latency cap T = record {
   taken = true;
-  paused = false;
   id = id;
   owner = owner;
   path = route path;

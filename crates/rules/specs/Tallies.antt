@@ -3,10 +3,10 @@ use Rattle.std.specs.Prelude.{ℕ, zero, suc, ◌+◌, ◌≡◌, Bool, true, fa
 use mathlib.Core.List.{List, [], ◌∷◌, ◌++◌, map, foldl}
 use Rattle.rules.specs.declared.Owner.{Owner}
 use Rattle.rules.specs.declared.Answer.{Answer}
-use Rattle.rules.specs.declared.Answer.TheVariants.{Done, Added, Listed, Nothing, Unknown, Already, CannotFinish, Value, Due, Limited, Refused}
+use Rattle.rules.specs.declared.Answer.TheVariants.{Done, Added, Listed, Nothing, Unknown, CannotFinish, Value, Due, Limited, Refused}
 use Rattle.rules.specs.declared.Flows.{Flows}
 use Rattle.rules.specs.declared.Call.{Call}
-use Rattle.rules.specs.declared.Call.TheVariants.{Advance, Submit, Cancel, Pause, Resume, AddEdge, Widen, TakeCompleted, OwnersWithCompletions, NextCompletionDelay, EstimateNew, Settle, Remaining, MeanInFlight, Rate, Bottleneck, Edge, Contains, Rounds}
+use Rattle.rules.specs.declared.Call.TheVariants.{Advance, Submit, Cancel, AddEdge, Widen, TakeCompleted, OwnersWithCompletions, NextCompletionDelay, EstimateNew, Settle, Remaining, MeanInFlight, Rate, Bottleneck, Edge, Contains, Rounds}
 use Rattle.rules.specs.declared.Said.{Said}
 use Rattle.rules.specs.declared.Said.TheVariants as Said_variants
 use Rattle.rules.specs.Lists.{count, those}
@@ -70,7 +70,6 @@ is_yes (Added n) = false
 is_yes (Listed n) = false
 is_yes Nothing = false
 is_yes Unknown = false
-is_yes Already = false
 is_yes CannotFinish = false
 is_yes (Value x) = false
 is_yes (Due d) = false
@@ -84,7 +83,6 @@ list_length (Added n) = 0
 list_length (Listed n) = n
 list_length Nothing = 0
 list_length Unknown = 0
-list_length Already = 0
 list_length CannotFinish = 0
 list_length (Value x) = 0
 list_length (Due d) = 0
@@ -112,8 +110,6 @@ unfoldable pub noted : Call → Said → List ℕ → Ledger → Ledger
 noted (Submit s) said buffer l = cond (says_done said) (note_submitted s.id (owner_kind s.owner) l) l
 noted (Cancel id) said buffer l = cond (says_done said) (note_cancelled id l) l
 noted (Advance T) said buffer l = foldl (λ m e. note_completed e m) l (entries (says_listed said) buffer)
-noted (Pause id) said buffer l = l
-noted (Resume id) said buffer l = l
 noted (AddEdge capacity) said buffer l = l
 noted (Widen e amount) said buffer l = l
 noted (TakeCompleted owner) said buffer l = l

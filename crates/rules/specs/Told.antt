@@ -6,7 +6,7 @@ use Rattle.rules.specs.declared.Delay.TheVariants.{After, Never}
 use Rattle.rules.specs.declared.Limit.{Limit}
 use Rattle.rules.specs.declared.Limit.TheVariants.{AtEdge, AtCap, Nowhere}
 use Rattle.rules.specs.declared.Answer.{Answer}
-use Rattle.rules.specs.declared.Answer.TheVariants.{Done, Added, Listed, Nothing, Unknown, Already, CannotFinish, Value, Due, Limited, Refused}
+use Rattle.rules.specs.declared.Answer.TheVariants.{Done, Added, Listed, Nothing, Unknown, CannotFinish, Value, Due, Limited, Refused}
 use Rattle.rules.specs.declared.EdgeRead.{EdgeRead}
 use Rattle.rules.specs.declared.EdgeRead.TheVariants as EdgeRead_variants
 use Rattle.rules.specs.declared.Said.{Said}
@@ -30,12 +30,11 @@ told_answer (Added n) = 1 ∷ n ∷ []
 told_answer (Listed n) = 2 ∷ n ∷ []
 told_answer Nothing = 3 ∷ []
 told_answer Unknown = 4 ∷ []
-told_answer Already = 5 ∷ []
-told_answer CannotFinish = 6 ∷ []
-told_answer (Value x) = 7 ∷ bits_of x ∷ []
-told_answer (Due d) = 8 ∷ told_delay d
-told_answer (Limited l) = 9 ∷ told_limit l
-told_answer (Refused n) = 10 ∷ n ∷ []
+told_answer CannotFinish = 5 ∷ []
+told_answer (Value x) = 6 ∷ bits_of x ∷ []
+told_answer (Due d) = 7 ∷ told_delay d
+told_answer (Limited l) = 8 ∷ told_limit l
+told_answer (Refused n) = 9 ∷ n ∷ []
 
 -- An edge, or its refusal. (01, Our forms)
 unfoldable pub told_edge : EdgeRead → List ℕ

@@ -1,21 +1,20 @@
--- Which calls touch the simulator or a paused transfer, and which answers promise that nothing has changed. (01, Numbers; 02, P8 and P10) Definitions only.
-use Rattle.std.specs.Prelude.{ℕ, Bool, true, false, eqb}
+-- Which calls touch the simulator, and which answers promise that nothing has changed. (01, Numbers; 02, P10) Definitions only.
+use Rattle.std.specs.Prelude.{Bool, true, false}
 use Rattle.rules.specs.declared.Answer.{Answer}
-use Rattle.rules.specs.declared.Answer.TheVariants.{Done, Added, Listed, Nothing, Unknown, Already, CannotFinish, Value, Due, Limited, Refused}
+use Rattle.rules.specs.declared.Answer.TheVariants.{Done, Added, Listed, Nothing, Unknown, CannotFinish, Value, Due, Limited, Refused}
 use Rattle.rules.specs.declared.Call.{Call}
-use Rattle.rules.specs.declared.Call.TheVariants.{Advance, Submit, Cancel, Pause, Resume, AddEdge, Widen, TakeCompleted, OwnersWithCompletions, NextCompletionDelay, EstimateNew, Settle, Remaining, MeanInFlight, Rate, Bottleneck, Edge, Contains, Rounds}
+use Rattle.rules.specs.declared.Call.TheVariants.{Advance, Submit, Cancel, AddEdge, Widen, TakeCompleted, OwnersWithCompletions, NextCompletionDelay, EstimateNew, Settle, Remaining, MeanInFlight, Rate, Bottleneck, Edge, Contains, Rounds}
 use Rattle.rules.specs.declared.EdgeRead.TheVariants as EdgeRead_variants
 use Rattle.rules.specs.declared.Said.{Said}
 use Rattle.rules.specs.declared.Said.TheVariants as Said_variants
 
--- A refusal, an unknown id, one that is as asked already, or nothing waiting. (01, Numbers; 02, P8)
+-- A refusal, an unknown id, or nothing waiting. (01, Numbers)
 unfoldable pub is_no : Answer → Bool
 is_no Done = false
 is_no (Added n) = false
 is_no (Listed n) = false
 is_no Nothing = true
 is_no Unknown = true
-is_no Already = true
 is_no CannotFinish = false
 is_no (Value x) = false
 is_no (Due d) = false
@@ -45,8 +44,6 @@ unfoldable pub touch : Call → Touch
 touch (Advance T) = Works
 touch (Submit submission) = Works
 touch (Cancel id) = Works
-touch (Pause id) = Works
-touch (Resume id) = Works
 touch (AddEdge capacity) = Works
 touch (Widen e amount) = Works
 touch (TakeCompleted owner) = Works
@@ -73,25 +70,3 @@ unfoldable pub only_reads : Touch → Bool
 only_reads Reads = true
 only_reads Works = false
 only_reads Refreshes = false
-
--- Whether a call is one that a paused transfer with that id feels: its own cancel or resume. (02, P8)
-unfoldable pub wakes : ℕ → Call → Bool
-wakes id (Advance T) = false
-wakes id (Submit submission) = false
-wakes id (Cancel x) = eqb id x
-wakes id (Pause x) = false
-wakes id (Resume x) = eqb id x
-wakes id (AddEdge capacity) = false
-wakes id (Widen e amount) = false
-wakes id (TakeCompleted owner) = false
-wakes id OwnersWithCompletions = false
-wakes id NextCompletionDelay = false
-wakes id (EstimateNew e) = false
-wakes id Settle = false
-wakes id (Remaining x) = false
-wakes id (MeanInFlight e until) = false
-wakes id (Rate x) = false
-wakes id (Bottleneck x) = false
-wakes id (Edge e) = false
-wakes id (Contains x) = false
-wakes id Rounds = false

@@ -50,7 +50,7 @@ pub struct Edge {
     pub capacity: f64,
     // Bytes that have crossed it so far, a repeat counted again.
     pub bytes_moved: f64,
-    // Crossings in flight, summed over time; those of paused transfers are left out.
+    // Crossings in flight, summed over time.
     pub busy_transfer_seconds: f64,
 }
 
@@ -65,8 +65,6 @@ pub struct Route {
 #[derive(Drop)]
 pub struct Transfer {
     pub taken: bool,
-    // In flight all the same, but standing still.
-    pub paused: bool,
     pub id: u32,
     pub owner: Owner,
     pub path: Route,
@@ -107,7 +105,7 @@ pub struct Totals {
     pub write: Tally,
 }
 
-// The crossings of each edge by all transfers in flight that are not paused, as of the last filling, and how many edges there were then.
+// The crossings of each edge by all transfers in flight, as of the last filling, and how many edges there were then.
 #[derive(Drop)]
 pub struct EdgeLoad {
     pub load: [usize; 64],
@@ -159,9 +157,7 @@ pub enum Answer {
     Nothing,
     // No transfer with that id is in flight.
     Unknown,
-    // It is paused already, or was not paused at all.
-    Already,
-    // The transfer is paused, or has bytes left that do not flow, so no time is enough.
+    // The transfer has bytes left that do not flow, so no time is enough.
     CannotFinish,
     // A number of seconds, a rate or another double.
     Value(f64),
@@ -219,8 +215,6 @@ pub enum Call {
     Advance(f64),
     Submit(Submission),
     Cancel(u32),
-    Pause(u32),
-    Resume(u32),
     AddEdge(f64),
     Widen(u32, f64),
     TakeCompleted(Owner),
@@ -326,7 +320,6 @@ impl Transfer {
     {
         Transfer {
             taken: false,
-            paused: false,
             id: 0,
             owner: Owner::Handoff,
             path: Route {

@@ -126,12 +126,6 @@ fn read_short(name: &[u8], line: &[u8], at: usize) -> Ask {
     if check::same(name, b"cancel") {
         return Ask::Make(Call::Cancel(id));
     }
-    if check::same(name, b"pause") {
-        return Ask::Make(Call::Pause(id));
-    }
-    if check::same(name, b"resume") {
-        return Ask::Make(Call::Resume(id));
-    }
     if check::same(name, b"remaining") {
         return Ask::Make(Call::Remaining(id));
     }

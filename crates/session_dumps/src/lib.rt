@@ -158,7 +158,6 @@ fn slot(page: &mut [u8; 65536], at: usize, number: usize, t: Transfer) -> usize
     let next = spaced_owner(page, next, owner);
     let next = remains(page, next, t);
     let next = route(page, next, path);
-    let next = paused_field(page, next, t.paused);
     limited_by(page, next, limit)
 }
 
@@ -185,19 +184,9 @@ fn cap_field(page: &mut [u8; 65536], at: usize, cap: Cap) -> usize
     }
 }
 
-fn paused_field(page: &mut [u8; 65536], at: usize, paused: bool) -> usize
-    requires { at ≤ 60200 }
-    ensures { result ≤ 60220 }
-{
-    if paused {
-        return put_text(page, at, b" paused 1");
-    }
-    put_text(page, at, b" paused 0")
-}
-
 // The end of a slot's line: who froze the transfer at the last filling.
 fn limited_by(page: &mut [u8; 65536], at: usize, by: Limit) -> usize
-    requires { at ≤ 60220 }
+    requires { at ≤ 60200 }
     ensures { result ≤ 60300 }
 {
     let next = put_text(page, at, b" by ");

@@ -43,7 +43,7 @@ fn time_left(page: &mut [u8; 65536], at: usize, left: TimeLeft) -> usize
 {
     let answer = left.answer;
     let Answer::Value(x) = answer else {
-        let next = one_word(page, at, answer);
+        let next = no_time(page, at, answer);
         let next = whether_of_now(page, next, left.behind);
         return put_text(page, next, b"\n");
     };
@@ -54,14 +54,12 @@ fn time_left(page: &mut [u8; 65536], at: usize, left: TimeLeft) -> usize
     put_text(page, next, b"\n")
 }
 
-// An answer that is one word.
-fn one_word(page: &mut [u8; 65536], at: usize, answer: Answer) -> usize
+fn no_time(page: &mut [u8; 65536], at: usize, answer: Answer) -> usize
     requires { at ≤ 49152 }
     ensures { result ≤ 49200 }
 {
     match answer {
         Answer::CannotFinish => put_text(page, at, b"cannot_finish"),
-        Answer::Already => put_text(page, at, b"already"),
         _ => put_text(page, at, b"unknown"),
     }
 }
@@ -100,8 +98,8 @@ fn answer(answer: Answer, width: usize, lent: &[u32], page: &mut [u8; 65536], at
             let next = put_text(page, at, b"nothing");
             unwritten(page, next, lent)
         }
-        Answer::Unknown | Answer::Already | Answer::CannotFinish => {
-            let next = one_word(page, at, answer);
+        Answer::Unknown | Answer::CannotFinish => {
+            let next = no_time(page, at, answer);
             put_text(page, next, b"\n")
         }
         Answer::Value(x) => valued(page, at, b"value ", x),
@@ -195,8 +193,6 @@ pub fn width(call: Call) -> usize
         Call::Advance(_) => 3,
         Call::Submit(_) => 0,
         Call::Cancel(_) => 0,
-        Call::Pause(_) => 0,
-        Call::Resume(_) => 0,
         Call::AddEdge(_) => 0,
         Call::Widen(_, _) => 0,
         Call::TakeCompleted(_) => 1,

@@ -1,11 +1,11 @@
 -- What it means that a search found a slot, or none: who is there, and what is asked of the transfer with that id. Assumes nothing.
 use mathlib.Core.Path.{◌≡◌, refl, sym, ap, ◌∙◌}
-use mathlib.Core.Bool.{Bool, true, false, cond, true≢false}
-use mathlib.Core.List.{List, [], ◌∷◌, map}
+use mathlib.Core.Bool.{Bool, true, false, cond}
+use mathlib.Core.List.{List, [], ◌∷◌}
 use Prim.Native.Nat.{ℕ, zero, suc, ◌+◌, ◌<◌}
 use native.Mathlib.Omega.{arith}
 use lib.Dec.{eqb}
-use lib.ListN.{length, get_or, set}
+use lib.ListN.{length, get_or}
 use borrow.Author.Tests.{eqb-true}
 use Rattle.rules.specs.declared.Transfer.{Transfer}
 use Rattle.rules.specs.declared.Flows.{Flows}
@@ -13,7 +13,6 @@ use Rattle.rules.specs.Lists.{any}
 use Rattle.rules.specs.Records.{free, has_id, of_id}
 use Rattle.rules.specs.Invariant.{Invariant}
 use Rattle.rules.proofs.Conds.{both}
-use Rattle.rules.proofs.OneChanged.{one_changed}
 use Rattle.slots.specs.declared.Lookup.{Lookup}
 use Rattle.slots.specs.declared.Lookup.TheVariants.{Slot, Nowhere}
 use Rattle.slots.specs.Lookup.{lookup_from, lookup}
@@ -98,25 +97,8 @@ asked_of id none some slots t same b e = ap (λ (c : Bool). cond c (some t) none
 
 -- ---- one slot for an id
 
--- a slot that was found is one of the table's
-pub found_below : {f : Flows} → Invariant f → (id : ℕ) {i : ℕ} → lookup id f.in_flight ≡ Slot i → i < 256
-found_below {f} inv id {i} e = omega (arith, inv.slot_places, (somewhere id f.in_flight i e).inside)
-
 pub one_slot : {f : Flows} → Invariant f → (id i j : ℕ) → has_id id (get_or f.in_flight i free) ≡ true → has_id id (get_or f.in_flight j free) ≡ true → i ≡ j
 one_slot {f} inv id i j a b =
     let p = holds_id id (get_or f.in_flight i free) a in
     let q = holds_id id (get_or f.in_flight j free) b in
     inv.ids_differ i j p.0 q.0 (p.1 ∙ sym q.1)
-
--- so what is done to the transfer with an id is one store
-pub changed_one : {f : Flows} → Invariant f → (id i : ℕ) → i < length f.in_flight → has_id id (get_or f.in_flight i free) ≡ true → (new : Transfer → Transfer)
-    → map (λ t. cond (has_id id t) (new t) t) f.in_flight ≡ set f.in_flight i (new (get_or f.in_flight i free))
-changed_one {f} inv id i inside here new = one_changed (has_id id) new free f.in_flight i inside here (λ j l e. one_slot inv id j i e here)
-
--- where the id is, it is found
-pub found_at : {f : Flows} → Invariant f → (id i : ℕ) → has_id id (get_or f.in_flight i free) ≡ true → Found id f.in_flight i
-found_at {f} inv id i here = go (lookup id f.in_flight) refl
-  where
-    go : (l : Lookup) → lookup id f.in_flight ≡ l → Found id f.in_flight i
-    go Nowhere e = absurd (true≢false (sym here ∙ (nowhere id f.in_flight e).nobody i))
-    go (Slot j) e = let found = somewhere id f.in_flight j e in rw (one_slot inv id j i found.holds here) at found

@@ -88,7 +88,6 @@ fn submitted_transfer(
     let cap = arguments::read_cap(rate_cap);
     Transfer {
         taken: true,
-        paused: false,
         id: id,
         owner: owner,
         path: route,

@@ -19,8 +19,6 @@ enum Kind {
     EstimateNewCapped,
     Settle,
     Remaining,
-    Pause,
-    Resume,
     Advance,
     Cancel,
     OwnersWithCompletions,
@@ -54,7 +52,7 @@ fn main() {
     let mut flows = Flows::new();
     let mut counts = none();
     let mut n: u32 = 0;
-    while n < 3100 {
+    while n < 2900 {
         let kind = nth(n / 100);
         let made = called(flows, kind, n % 100, &mut lent);
         let answer = made.answer;
@@ -89,8 +87,6 @@ fn called(flows: Flows, kind: Kind, i: u32, lent: &mut [u32; 768]) -> Outcome
         Kind::Rate => flows::rate(flows, 2 * i),
         Kind::Bottleneck => flows::bottleneck(flows, 2 * i),
         Kind::Settle => flows::settle(flows),
-        Kind::Pause => flows::pause(flows, 2 * i),
-        Kind::Resume => flows::resume(flows, 3 * i),
         _ => Outcome {
             answer: asked(flows, kind, i, lent),
             flows,
@@ -210,8 +206,10 @@ fn counted(counts: Counts, answer: Answer) -> Counts {
     let mut more = counts;
     match answer {
         Answer::Refused(_) => more.refused = std::num::wrapping_add_u64(counts.refused, 1),
-        Answer::Unknown | Answer::Already | Answer::Nothing => more.nothing =
-            std::num::wrapping_add_u64(counts.nothing, 1),
+        Answer::Unknown | Answer::Nothing => more.nothing = std::num::wrapping_add_u64(
+            counts.nothing,
+            1,
+        ),
         _ => more.done = std::num::wrapping_add_u64(counts.done, 1),
     }
     more
@@ -273,25 +271,23 @@ fn nth(n: u32) -> Kind {
         8 => Kind::EstimateNewCapped,
         9 => Kind::Settle,
         10 => Kind::Remaining,
-        11 => Kind::Pause,
-        12 => Kind::Resume,
-        13 => Kind::Advance,
-        14 => Kind::Cancel,
-        15 => Kind::OwnersWithCompletions,
-        16 => Kind::TakeCompleted,
-        17 => Kind::MeanInFlight,
-        18 => Kind::Edge,
-        19 => Kind::Contains,
-        20 => Kind::Now,
-        21 => Kind::Rounds,
-        22 => Kind::NumEdges,
-        23 => Kind::NumInFlight,
-        24 => Kind::NumUncollected,
-        25 => Kind::PeakInFlight,
-        26 => Kind::Totals,
-        27 => Kind::SubmittedCounts,
-        28 => Kind::CompletedCounts,
-        29 => Kind::CancelledCounts,
+        11 => Kind::Advance,
+        12 => Kind::Cancel,
+        13 => Kind::OwnersWithCompletions,
+        14 => Kind::TakeCompleted,
+        15 => Kind::MeanInFlight,
+        16 => Kind::Edge,
+        17 => Kind::Contains,
+        18 => Kind::Now,
+        19 => Kind::Rounds,
+        20 => Kind::NumEdges,
+        21 => Kind::NumInFlight,
+        22 => Kind::NumUncollected,
+        23 => Kind::PeakInFlight,
+        24 => Kind::Totals,
+        25 => Kind::SubmittedCounts,
+        26 => Kind::CompletedCounts,
+        27 => Kind::CancelledCounts,
         _ => Kind::BytesSubmitted,
     }
 }
@@ -316,8 +312,6 @@ fn name(kind: Kind) -> bool {
 
 fn name_after_estimates(kind: Kind) -> bool {
     match kind {
-        Kind::Pause => io::write_all(1, b"pause"),
-        Kind::Resume => io::write_all(1, b"resume"),
         Kind::Advance => io::write_all(1, b"advance"),
         Kind::Cancel => io::write_all(1, b"cancel"),
         Kind::OwnersWithCompletions => io::write_all(1, b"owners_with_completions"),

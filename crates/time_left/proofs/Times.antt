@@ -1,10 +1,9 @@
--- The time to done of a sound transfer is no time where it is done, more than eps where it is not, and never where it is paused or bytes are left at rate 0; and eps is above 0.
+-- The time to done of a sound transfer is no time where it is done, more than eps where it is not, and never where bytes are left at rate 0; and eps is above 0.
 -- Assumes nothing.
 use Prim.Native.Nat.{◌^◌, ◌<◌}
 use native.Mathlib.Omega.{arith}
-use mathlib.Core.Path.{◌≡◌, refl, sym, ◌∙◌}
-use mathlib.Core.Logic.{◌⊎◌, inl, inr}
-use mathlib.Core.Bool.{Bool, true, false, not, ◌&&◌, ◌||◌, cond, true≢false}
+use mathlib.Core.Path.{◌≡◌}
+use mathlib.Core.Bool.{Bool, true, false, not, ◌&&◌, ◌||◌, cond}
 use lib.Dec.{T}
 use lib.Ieee.{Float, round, of_int, mul, lt, fits, of_bits, le}
 use Rattle.doubles.specs.Doubles.{◌⊕◌, ◌⊗◌, ◌⊘◌, ◌≺◌, ◌≼◌, nought, whole, nearest, plain, Plain}
@@ -24,7 +23,7 @@ use Rattle.rules.specs.declared.Flows.{Flows}
 use Rattle.rules.specs.Tolerance.{B, eps}
 use Rattle.rules.specs.Done.{done_eps, is_done, time_to_done}
 use Rattle.rules.specs.Invariant.{ClockTime, SoundFloor, SoundTransfer, Invariant}
-use Rattle.rules.proofs.Floors.{default_floor, B_plain}
+use Rattle.rules.proofs.Floors.{default_floor}
 
 -- ---- eps
 -- no floor is finer than the default, and that is above 0
@@ -85,9 +84,9 @@ not_nought e above below = let h = lt→exact nought_plain e above in let k = lt
 
 -- ---- one transfer
 
--- It is paused, or bytes are left and none flow.
+-- Bytes are left, and none flow.
 abbrev pub Stalled : Transfer → Type 0
-Stalled t = (t.paused ≡ true) ⊎ T (B ≺ t.bytes_remaining) × (t.rate ≡ nought)
+Stalled t = T (B ≺ t.bytes_remaining) × (t.rate ≡ nought)
 
 -- What a time to done is of a transfer.
 pub data Time (eps : Float) (t : Transfer) : Delay → Type 0 where
@@ -95,45 +94,35 @@ pub data Time (eps : Float) (t : Transfer) : Delay → Type 0 where
   later : {x : Float} → T (not (is_done eps t)) → (Stalled t → ⊥) → T (eps ≺ x) → Time eps t (After x)
   never : T (not (is_done eps t)) → Stalled t → Time eps t Never
 
--- the time of one that is not done: by its rate where its bytes count
-abbrev by_rate : Transfer → Delay
-by_rate t = cond (nought ≺ t.rate) (After (t.latency_remaining ⊕ t.bytes_remaining ⊘ t.rate)) Never
-
-abbrev by_bytes : Transfer → Delay
-by_bytes t = cond (t.bytes_remaining ≼ B) (After t.latency_remaining) (by_rate t)
-
--- one that is not paused
-module _ {f : Flows} {t : Transfer} {eps : Float} (s : SoundTransfer f t) (e : Plain eps) (awake : t.paused ≡ false) where
-  not_stalled : (T (B ≺ t.bytes_remaining) × (t.rate ≡ nought) → ⊥) → Stalled t → ⊥
-  not_stalled flows (inl paused) = true≢false (sym paused ∙ awake)
-  not_stalled flows (inr still) = flows still
+module _ {f : Flows} {t : Transfer} {eps : Float} (s : SoundTransfer f t) (e : Plain eps) where
+  B_plain : Plain B
+  unfolding plain fits round
+  B_plain = record { is_plain = tt; is_held = tt }
 
   few_flows : T (t.bytes_remaining ≼ B) → Stalled t → ⊥
-  few_flows few = not_stalled (λ stalled. let h = le→exact s.bytes B_plain few in let k = lt→exact B_plain s.bytes stalled.0 in omega arith)
+  few_flows few stalled = let h = le→exact s.bytes B_plain few in let k = lt→exact B_plain s.bytes stalled.0 in omega arith
 
   moving_flows : T (nought ≺ t.rate) → Stalled t → ⊥
-  moving_flows moves = not_stalled (λ stalled. below_itself (rw stalled.1 at moves))
+  moving_flows moves stalled = below_itself (rw stalled.1 at moves)
 
   done_flows : T (is_done eps t) → Stalled t → ⊥
   unfolding is_done
-  done_flows done = go t.paused (t.latency_remaining ≼ eps) (t.bytes_remaining ≼ B) (nought ≺ t.rate) (t.bytes_remaining ⊘ t.rate ≼ eps) done few_flows moving_flows
+  done_flows done = go (t.latency_remaining ≼ eps) (t.bytes_remaining ≼ B) (nought ≺ t.rate) (t.bytes_remaining ⊘ t.rate ≼ eps) done few_flows moving_flows
     where
-      go : (p a b m d : Bool) → T (not p && (a && (b || m && d))) → (T b → Stalled t → ⊥) → (T m → Stalled t → ⊥) → Stalled t → ⊥
-      go false true true m d h few moving = few tt
-      go false true false true d h few moving = moving tt
-      go false true false false d h few moving = absurd h
-      go false false b m d h few moving = absurd h
-      go true a b m d h few moving = absurd h
+      go : (a b m d : Bool) → T (a && (b || m && d)) → (T b → Stalled t → ⊥) → (T m → Stalled t → ⊥) → Stalled t → ⊥
+      go true true m d h few moving = few tt
+      go true false true d h few moving = moving tt
+      go true false false d h few moving = absurd h
+      go false b m d h few moving = absurd h
 
   latency_later : T (not (is_done eps t)) → T (t.bytes_remaining ≼ B) → T (eps ≺ t.latency_remaining)
   unfolding is_done
-  latency_later undone few = not_at_most e (plain_nonneg s.latency) (go t.paused (t.latency_remaining ≼ eps) (t.bytes_remaining ≼ B) (nought ≺ t.rate && t.bytes_remaining ⊘ t.rate ≼ eps) awake few undone)
+  latency_later undone few = not_at_most e (plain_nonneg s.latency) (go (t.latency_remaining ≼ eps) (t.bytes_remaining ≼ B) (nought ≺ t.rate && t.bytes_remaining ⊘ t.rate ≼ eps) few undone)
     where
-      go : (p a b c : Bool) → p ≡ false → T b → T (not (not p && (a && (b || c)))) → T (not a)
-      go false true true c q k h = h
-      go false true false c q k h = absurd k
-      go false false b c q k h = tt
-      go true a b c q k h = absurd (true≢false q)
+      go : (a b c : Bool) → T b → T (not (a && (b || c))) → T (not a)
+      go true true c k h = h
+      go true false c k h = absurd k
+      go false b c k h = tt
 
   bytes_later : T (not (is_done eps t)) → T (nought ≺ t.rate) → T (eps ≺ t.latency_remaining ⊕ t.bytes_remaining ⊘ t.rate)
   unfolding is_done
@@ -142,35 +131,34 @@ module _ {f : Flows} {t : Transfer} {eps : Float} (s : SoundTransfer f t) (e : P
       not_at_most e (sum_nonneg (plain_nonneg s.latency) quotient)
       (by_test (t.latency_remaining ⊕ t.bytes_remaining ⊘ t.rate ≼ eps) (λ (b : Bool). T (not b)) (λ h.
       let parts = sum_at_most s.latency quotient e h in
-      absurd (go t.paused (t.latency_remaining ≼ eps) (t.bytes_remaining ≼ B) (nought ≺ t.rate) (t.bytes_remaining ⊘ t.rate ≼ eps) awake parts.0 moves parts.1 undone)) (λ h. tt))
+      absurd (go (t.latency_remaining ≼ eps) (t.bytes_remaining ≼ B) (nought ≺ t.rate) (t.bytes_remaining ⊘ t.rate ≼ eps) parts.0 moves parts.1 undone)) (λ h. tt))
     where
-      go : (p a b m d : Bool) → p ≡ false → T a → T m → T d → T (not (not p && (a && (b || m && d)))) → ⊥
-      go false true true m d q k l n h = h
-      go false true false true true q k l n h = h
-      go false true false true false q k l n h = n
-      go false true false false d q k l n h = l
-      go false false b m d q k l n h = k
-      go true a b m d q k l n h = true≢false q
+      go : (a b m d : Bool) → T a → T m → T d → T (not (a && (b || m && d))) → ⊥
+      go true true m d k l n h = h
+      go true false true true k l n h = h
+      go true false true false k l n h = n
+      go true false false d k l n h = l
+      go false b m d k l n h = k
 
-  by_rate_is : T (not (is_done eps t)) → T (not (t.bytes_remaining ≼ B)) → Time eps t (by_rate t)
+  -- the time of one that is not done: by its rate where its bytes count
+  abbrev by_rate : Delay
+  by_rate = cond (nought ≺ t.rate) (After (t.latency_remaining ⊕ t.bytes_remaining ⊘ t.rate)) Never
+
+  abbrev by_bytes : Delay
+  by_bytes = cond (t.bytes_remaining ≼ B) (After t.latency_remaining) by_rate
+
+  by_rate_is : T (not (is_done eps t)) → T (not (t.bytes_remaining ≼ B)) → Time eps t by_rate
   by_rate_is undone many =
       by_test (nought ≺ t.rate) (λ (b : Bool). Time eps t (cond b (After (t.latency_remaining ⊕ t.bytes_remaining ⊘ t.rate)) Never))
       (λ moves. later undone (moving_flows moves) (bytes_later undone moves))
-      (λ still. never undone (inr (not_at_most B_plain (plain_nonneg s.bytes) many, not_above_zero s.rate still)))
+      (λ still. never undone (not_at_most B_plain (plain_nonneg s.bytes) many, not_above_zero s.rate still))
 
-  by_bytes_is : T (not (is_done eps t)) → Time eps t (by_bytes t)
+  by_bytes_is : T (not (is_done eps t)) → Time eps t by_bytes
   by_bytes_is undone =
-      by_test (t.bytes_remaining ≼ B) (λ (b : Bool). Time eps t (cond b (After t.latency_remaining) (by_rate t)))
+      by_test (t.bytes_remaining ≼ B) (λ (b : Bool). Time eps t (cond b (After t.latency_remaining) by_rate))
       (λ few. later undone (few_flows few) (latency_later undone few))
       (by_rate_is undone)
 
-  awake_is : Time eps t (cond (is_done eps t) (After nought) (by_bytes t))
-  awake_is = by_test (is_done eps t) (λ (b : Bool). Time eps t (cond b (After nought) (by_bytes t))) (λ done. now done (done_flows done)) by_bytes_is
-
-pub time_is : {f : Flows} {t : Transfer} {eps : Float} → SoundTransfer f t → Plain eps → Time eps t (time_to_done eps t)
-unfolding time_to_done is_done
-time_is {f} {t} {eps} s e = go t.paused refl
-  where
-    go : (b : Bool) → t.paused ≡ b → Time eps t (cond b Never (cond (is_done eps t) (After nought) (by_bytes t)))
-    go true paused = never (rw paused tt) (inl paused)
-    go false awake = awake_is s e awake
+  pub time_is : Time eps t (time_to_done eps t)
+  unfolding time_to_done
+  time_is = by_test (is_done eps t) (λ (b : Bool). Time eps t (cond b (After nought) by_bytes)) (λ done. now done (done_flows done)) by_bytes_is

@@ -13,7 +13,7 @@ use Rattle.rules.specs.declared.Delay.{Delay}
 use Rattle.rules.specs.declared.Delay.TheVariants.{After, Never}
 use Rattle.rules.specs.declared.Transfer.{Transfer}
 use Rattle.rules.specs.declared.Answer.{Answer}
-use Rattle.rules.specs.declared.Answer.TheVariants.{Done, Added, Listed, Nothing, Unknown, Already, CannotFinish, Value, Due, Limited, Refused}
+use Rattle.rules.specs.declared.Answer.TheVariants.{Done, Added, Listed, Nothing, Unknown, CannotFinish, Value, Due, Limited, Refused}
 use Rattle.rules.specs.declared.Flows.{Flows}
 use Rattle.rules.specs.Records.{free, contains}
 use Rattle.rules.specs.Done.{done_eps, is_done, time_to_done}
@@ -37,7 +37,6 @@ seconds (Added n) = nought
 seconds (Listed n) = nought
 seconds Nothing = nought
 seconds Unknown = nought
-seconds Already = nought
 seconds CannotFinish = nought
 seconds (Value x) = x
 seconds (Due d) = nought
@@ -50,15 +49,15 @@ is_never Never = true
 
 value_known : {x : Float} → Value x ≡ Unknown → ⊥
 unfolding which told_answer
-value_known e = let h : ◌≡◌ {A = ℕ} 7 4 = ap which e in omega arith
+value_known e = let h : ◌≡◌ {A = ℕ} 6 4 = ap which e in omega arith
 
 value_finishes : {x : Float} → Value x ≡ CannotFinish → ⊥
 unfolding which told_answer
-value_finishes e = let h : ◌≡◌ {A = ℕ} 7 6 = ap which e in omega arith
+value_finishes e = let h : ◌≡◌ {A = ℕ} 6 5 = ap which e in omega arith
 
 stalled_known : CannotFinish ≡ Unknown → ⊥
 unfolding which told_answer
-stalled_known e = let h : ◌≡◌ {A = ℕ} 6 4 = ap which e in omega arith
+stalled_known e = let h : ◌≡◌ {A = ℕ} 5 4 = ap which e in omega arith
 
 after_comes : {x : Float} → After x ≡ Never → ⊥
 unfolding is_never

@@ -14,11 +14,7 @@ pub fn takes_part(t: Transfer) -> bool
     ensures { result ≡ takes_part t }
 {
     if t.taken {
-        if t.paused {
-            false
-        } else {
-            t.bytes_remaining > Tolerance::B
-        }
+        t.bytes_remaining > Tolerance::B
     } else {
         false
     }
@@ -28,7 +24,7 @@ pub fn takes_part(t: Transfer) -> bool
 pub fn counts_in_loads(t: Transfer) -> bool
     ensures { result ≡ counts_in_loads t }
 {
-    if t.paused { false } else { t.taken }
+    t.taken
 }
 
 // The transfer at another rate, with the reason why it is no higher.
@@ -40,7 +36,6 @@ pub fn with_rate(t: Transfer, rate: f64, limit: Limit) -> Transfer
     let rate_cap = t.rate_cap;
     Transfer {
         taken: t.taken,
-        paused: t.paused,
         id: t.id,
         owner: owner,
         path: path,
@@ -62,13 +57,10 @@ pub fn done_eps(tolerance: Tolerance, now: f64) -> f64
     tolerance.eps(now)
 }
 
-// Finished within the tolerance: the latency is paid, and the bytes are gone or would be within `eps`. A paused transfer is not, whatever is left.
+// Finished within the tolerance: the latency is paid, and the bytes are gone or would be within `eps`.
 pub fn is_done(t: Transfer, eps: f64) -> bool
     ensures { result ≡ is_done eps t }
 {
-    if t.paused {
-        return false;
-    }
     if t.latency_remaining <= eps {
         if t.bytes_remaining <= Tolerance::B {
             true
@@ -82,13 +74,10 @@ pub fn is_done(t: Transfer, eps: f64) -> bool
     }
 }
 
-// How long a transfer takes to be done at its rate; a paused one never is.
+// How long a transfer takes to be done at its rate.
 pub fn time_to_done(t: Transfer, eps: f64) -> Delay
     ensures { result ≡ time_to_done eps t }
 {
-    if t.paused {
-        return Delay::Never;
-    }
     if is_done(t, eps) {
         return Delay::After(0.0);
     }

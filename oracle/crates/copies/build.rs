@@ -7,16 +7,15 @@ fn main() {
 }
 
 fn make() -> Result<(), String> {
-    for input in ["../../slots.patch", "src/accessors.txt", "src/pauses.txt", "src/without_slots.txt", "src/with_slots.txt"] {
+    for input in ["../../slots.patch", "src/accessors.txt", "src/without_slots.txt", "src/with_slots.txt"] {
         println!("cargo::rerun-if-changed={input}");
     }
     let flows = making::flows_text()?;
     let patch = include_str!("../../slots.patch");
     let patched = making::record_drains(&making::count_rounds(&making::apply_patch(&flows, patch)?)?)?;
     let patched = making::mark_unreachable(&making::set_floor(&making::record_bottlenecks(&patched)?)?)?;
-    let both_ends = [include_str!("src/accessors.txt"), include_str!("src/pauses.txt")].concat();
-    let given_ends = both_ends.clone() + include_str!("src/without_slots.txt");
-    let patched_ends = making::mark_drains(&(both_ends + include_str!("src/with_slots.txt")))?;
+    let given_ends = [include_str!("src/accessors.txt"), include_str!("src/without_slots.txt")].concat();
+    let patched_ends = making::mark_drains(&[include_str!("src/accessors.txt"), include_str!("src/with_slots.txt")].concat())?;
     let plain = "use crate::plain::{inward, outward};\n";
     let checked = "use crate::checked::{inward, outward};\n";
     let copies = [

@@ -9,7 +9,7 @@ fn main() {
 }
 
 fn make() -> Result<(), String> {
-    for input in ["../../slots.patch", "../copies/src/accessors.txt", "../copies/src/pauses.txt", "../copies/src/with_slots.txt", "list.rs", "build.rs"] {
+    for input in ["../../slots.patch", "../copies/src/accessors.txt", "../copies/src/with_slots.txt", "list.rs", "build.rs"] {
         println!("cargo::rerun-if-changed={input}");
     }
     let patch = include_str!("../../slots.patch");
@@ -18,7 +18,6 @@ fn make() -> Result<(), String> {
     let ends = [
         "use crate::plain::{inward, outward};\n",
         include_str!("../copies/src/accessors.txt"),
-        include_str!("../copies/src/pauses.txt"),
         include_str!("../copies/src/with_slots.txt"),
     ];
     let folder = PathBuf::from(std::env::var_os("OUT_DIR").expect("run by cargo"));
@@ -40,7 +39,7 @@ fn all() -> impl Iterator<Item = &'static Fault> {
 
 /// The list of functions that make a fresh simulator of each copy.
 fn makers() -> String {
-    let each = |fault: &Fault| format!("    || Box::new({}::Driven::new()),\n", fault.name);
+    let each = |fault: &Fault| format!("    || Box::new({}::Flows::new()),\n", fault.name);
     let makers: String = all().map(each).collect();
     format!("pub const MAKERS: [fn() -> Box<dyn copies::Simulator>; {}] = [\n{makers}];\n", all().count())
 }

@@ -11,34 +11,6 @@ const fn fault(name: &'static str, wrong: &'static str, edits: &'static [(&'stat
     Fault { name, wrong, edits }
 }
 
-// Pauses in another way: a mark in the transfer, which stays in the table, with an edit for each place that has to look at it. All of them are harmless, and a fault leaves one out.
-type Edit = (&'static str, &'static str);
-const MARK: Edit = ("struct Transfer {\n", "struct Transfer {\n    paused: bool,\n");
-const FRESH: Edit = ("frozen_by: Bottleneck::Outside,", "frozen_by: Bottleneck::Outside, paused: false,");
-const SEEN: Edit = ("by: bottleneck_of(t),\n        paused: false,", "by: bottleneck_of(t),\n        paused: t.paused,");
-const KNOWN: Edit = ("let beside = self.beside.iter().any(|p| p.name == name);", "let beside = self.flows.in_flight.get(name).is_some_and(|t| t.paused);");
-const SET: Edit = (
-    "let (slot, mut transfer) = take_out(&mut self.flows, name);\n        transfer.rate = inward(0.0);\n        held_by_nobody(&mut transfer);\n        self.beside.push(Beside { name: name.to_string(), slot, transfer });",
-    "let transfer = self.flows.in_flight.get_mut(name).expect(\"in the table\"); transfer.paused = true; transfer.rate = 0.0; held_by_nobody(transfer);",
-);
-const CLEARED: Edit = (
-    "let place = self.beside.iter().position(|p| p.name == name).expect(\"paused\");\n        let Beside { name, slot, mut transfer } = self.beside.remove(place);\n        transfer.last_update = self.flows.now;\n        put_in(&mut self.flows, slot, name, transfer);",
-    "self.flows.in_flight.get_mut(name).expect(\"in the table\").paused = false;",
-);
-const NOT_DRAINED: Edit = ("if dt <= 0.0 {", "if dt <= 0.0 || t.paused {");
-const NOT_DONE: Edit = ("t.latency_remaining > eps", "t.paused || t.latency_remaining > eps");
-const NEVER: Edit = ("if Self::is_done(t, eps) {", "if t.paused { return None; }\n        if Self::is_done(t, eps) {");
-const NOT_FILLED: Edit = ("t.bytes_remaining > DONE_EPSILON_BYTES)", "t.bytes_remaining > DONE_EPSILON_BYTES && !t.paused)");
-const NO_LOAD: Edit = ("in self.in_flight.values() {\n                for &e in &t.path {\n                    load[e] += 1;", "in self.in_flight.values().filter(|t| !t.paused) {\n                for &e in &t.path {\n                    load[e] += 1;");
-const NO_INTEGRAL: Edit = ("in self.in_flight.values() {\n                for &e in &t.path {\n                    if self.drain_count", "in self.in_flight.values().filter(|t| !t.paused) {\n                for &e in &t.path {\n                    if self.drain_count");
-const NOT_ESTIMATED: Edit = ("<= DONE_EPSILON_BYTES {\n                continue", "<= DONE_EPSILON_BYTES || t.paused {\n                continue");
-
-// What a pause forgets, kept beside.
-const FORMER: Edit = ("    slot: Option<usize>,\n    transfer: Transfer,\n}", "    slot: Option<usize>,\n    transfer: Transfer,\n    former: Transfer,\n}");
-const KEPT: Edit = ("let (slot, mut transfer) = take_out(&mut self.flows, name);", "let (slot, mut transfer) = take_out(&mut self.flows, name); let former = transfer.clone();");
-const PUSHED: Edit = ("self.beside.push(Beside { name: name.to_string(), slot, transfer });", "self.beside.push(Beside { name: name.to_string(), slot, transfer, former });");
-const POPPED: &str = "let Beside { name, slot, mut transfer } = self.beside.remove(place);\n";
-
 pub const FAULTS: &[Fault] = &[
     // ---- document 01's slips ----
     fault("cap_at_equality", "a cap equal to the share wins", &[("cap < share", "cap <= share")]),
@@ -270,23 +242,23 @@ pub const FAULTS: &[Fault] = &[
     fault("floor_nan", "a NaN is taken", &[("floor >= outward(DONE_EPSILON_SECONDS) && floor <= COARSEST", "!(floor < outward(DONE_EPSILON_SECONDS) || floor > COARSEST)")]),
     fault("floor_clamped", "a floor out of range is brought into it", &[("Some(_) => return false,", "Some(floor) => with_floor(floor.clamp(outward(DONE_EPSILON_SECONDS), COARSEST)),")]),
     fault("floor_kept", "new without a floor keeps the last one", &[("None => Flows::new(),", "None => Flows { floor: self.floor, ..Flows::new() },")]),
-    fault("floor_refused_afresh", "a refused floor leaves a fresh simulator", &[("Some(_) => return false,", "Some(_) => { *self = Driven::new(); return false; }")]),
-    fault("floor_in_place", "a floor is set and the simulator kept", &[("*self = Driven::over(fresh);", "if floor.is_some() { self.floor = fresh.floor; } else { *self = Driven::over(fresh); }")]),
+    fault("floor_refused_afresh", "a refused floor leaves a fresh simulator", &[("Some(_) => return false,", "Some(_) => { *self = Flows::new(); return false; }")]),
+    fault("floor_in_place", "a floor is set and the simulator kept", &[("*self = fresh;", "if floor.is_some() { self.floor = fresh.floor; } else { *self = fresh; }")]),
     // ---- the question that only reads, which the Rust has not: its accessor ----
     fault(
         "remaining_default_floor",
         "remaining takes the default floor",
-        &[("Flows::time_to_done(t, self.done_eps()).map(outward)", "Flows::time_to_done(t, (self.now * 4.0 * f64::EPSILON).max(DONE_EPSILON_SECONDS)).map(outward)")],
+        &[("Self::time_to_done(t, self.done_eps()).map(outward)", "Self::time_to_done(t, (self.now * 4.0 * f64::EPSILON).max(DONE_EPSILON_SECONDS)).map(outward)")],
     ),
     fault(
         "remaining_old_eps",
         "remaining takes eps at the last drain",
-        &[("Flows::time_to_done(t, self.done_eps()).map(outward)", "Flows::time_to_done(t, (t.last_update * 4.0 * f64::EPSILON).max(self.floor)).map(outward)")],
+        &[("Self::time_to_done(t, self.done_eps()).map(outward)", "Self::time_to_done(t, (t.last_update * 4.0 * f64::EPSILON).max(self.floor)).map(outward)")],
     ),
     fault(
         "remaining_passed_off",
         "remaining takes off the time since the last drain",
-        &[("Flows::time_to_done(t, self.done_eps()).map(outward)", "Flows::time_to_done(t, self.done_eps()).map(|left| outward((left - (self.now - t.last_update)).max(0.0)))")],
+        &[("Self::time_to_done(t, self.done_eps()).map(outward)", "Self::time_to_done(t, self.done_eps()).map(|left| outward((left - (self.now - t.last_update)).max(0.0)))")],
     ),
     fault(
         "remaining_as_settled",
@@ -294,123 +266,28 @@ pub const FAULTS: &[Fault] = &[
         &[("let transfer = self.in_flight.get", "let mut settled = self.clone(); settled.settle(); let transfer = settled.in_flight.get")],
     ),
     // ---- the question who froze a transfer: its accessor ----
-    fault("bottleneck_no_filling", "the question who froze a transfer does not fill", &[("self.ensure_rates();\n        self.transfer(&name_of(id)).map(bottleneck_of)", "self.transfer(&name_of(id)).map(bottleneck_of)")]),
+    fault("bottleneck_no_filling", "the question who froze a transfer does not fill", &[("self.ensure_rates();\n        self.in_flight.get(name_of(id).as_str()).map(bottleneck_of)", "self.in_flight.get(name_of(id).as_str()).map(bottleneck_of)")]),
     fault(
         "bottleneck_known_fills",
         "that question fills for known ids alone",
-        &[("self.ensure_rates();\n        self.transfer(&name_of(id)).map(bottleneck_of)", "if self.is_paused(&name_of(id)).is_some() { self.ensure_rates(); }\n        self.transfer(&name_of(id)).map(bottleneck_of)")],
+        &[("self.ensure_rates();\n        self.in_flight.get(name_of(id).as_str()).map(bottleneck_of)", "if self.contains(&name_of(id)) { self.ensure_rates(); }\n        self.in_flight.get(name_of(id).as_str()).map(bottleneck_of)")],
     ),
     fault(
         "bottleneck_fills_anew",
         "that question fills rates that are up to date",
-        &[("self.ensure_rates();\n        self.transfer(&name_of(id)).map(bottleneck_of)", "self.rates_dirty = true; self.ensure_rates();\n        self.transfer(&name_of(id)).map(bottleneck_of)")],
+        &[("self.ensure_rates();\n        self.in_flight.get(name_of(id).as_str()).map(bottleneck_of)", "self.rates_dirty = true; self.ensure_rates();\n        self.in_flight.get(name_of(id).as_str()).map(bottleneck_of)")],
     ),
     fault(
         "bottleneck_drains",
         "that question drains first",
-        &[("self.ensure_rates();\n        self.transfer(&name_of(id)).map(bottleneck_of)", "self.drain_to_clock(); self.ensure_rates();\n        self.transfer(&name_of(id)).map(bottleneck_of)")],
+        &[("self.ensure_rates();\n        self.in_flight.get(name_of(id).as_str()).map(bottleneck_of)", "self.drain_to(self.now); self.ensure_rates();\n        self.in_flight.get(name_of(id).as_str()).map(bottleneck_of)")],
     ),
     fault("bottleneck_of_bytes", "whoever has at most B bytes by now is told to have nobody", &[("Some(t.frozen_by)", "Some(if t.bytes_remaining <= DONE_EPSILON_BYTES { Bottleneck::Outside } else { t.frozen_by })")]),
     fault("bottleneck_of_cap", "whoever runs at its cap is told the cap", &[("Some(t.frozen_by)", "Some(if t.rate_cap == Some(t.rate) && t.frozen_by != Bottleneck::Outside { Bottleneck::Cap } else { t.frozen_by })")]),
-    // ---- pauses, which the Rust has not: what a mark in the table has to keep whoever is paused from ----
-    fault("pause_pays_latency", "a paused transfer pays its latency", &[MARK, FRESH, SEEN, KNOWN, SET, CLEARED, NOT_DONE, NEVER, NOT_FILLED, NO_LOAD, NO_INTEGRAL, NOT_ESTIMATED]),
-    fault(
-        "pause_moves_bytes",
-        "a paused transfer keeps its rate and moves bytes",
-        &[
-            MARK,
-            FRESH,
-            SEEN,
-            KNOWN,
-            (SET.0, "let transfer = self.flows.in_flight.get_mut(name).expect(\"in the table\"); transfer.paused = true; held_by_nobody(transfer);"),
-            CLEARED,
-            NOT_DONE,
-            NEVER,
-            NOT_FILLED,
-            NO_LOAD,
-            NO_INTEGRAL,
-            NOT_ESTIMATED,
-        ],
-    ),
-    fault("pause_is_done", "a paused transfer is listed where it has no bytes left", &[MARK, FRESH, SEEN, KNOWN, SET, CLEARED, NOT_DRAINED, NEVER, NOT_FILLED, NO_LOAD, NO_INTEGRAL, NOT_ESTIMATED]),
-    fault("pause_in_next_done", "next-done goes by a paused transfer without bytes", &[MARK, FRESH, SEEN, KNOWN, SET, CLEARED, NOT_DRAINED, NOT_DONE, NOT_FILLED, NO_LOAD, NO_INTEGRAL, NOT_ESTIMATED]),
-    fault("pause_in_filling", "a paused transfer takes part in a filling", &[MARK, FRESH, SEEN, KNOWN, SET, CLEARED, NOT_DRAINED, NOT_DONE, NEVER, NO_LOAD, NO_INTEGRAL, NOT_ESTIMATED]),
-    fault("pause_in_integral", "a paused transfer counts in the drain's load integral", &[MARK, FRESH, SEEN, KNOWN, SET, CLEARED, NOT_DRAINED, NOT_DONE, NEVER, NOT_FILLED, NO_LOAD, NOT_ESTIMATED]),
-    fault("pause_in_quiet_integral", "a paused transfer counts in the quiet advance's load integral", &[MARK, FRESH, SEEN, KNOWN, SET, CLEARED, NOT_DRAINED, NOT_DONE, NEVER, NOT_FILLED, NO_INTEGRAL, NOT_ESTIMATED]),
-    fault("pause_in_estimate", "a paused transfer counts in an estimate", &[MARK, FRESH, SEEN, KNOWN, SET, CLEARED, NOT_DRAINED, NOT_DONE, NEVER, NOT_FILLED, NO_LOAD, NO_INTEGRAL]),
-    // ---- pauses: what is done by hand ----
-    fault("pause_no_drain", "a pause does not drain", &[("Some(false) => self.drain_to_clock(),", "Some(false) => {}")]),
-    fault("pause_no_drain_back", "a resumption does not drain", &[("Some(true) => self.drain_to_clock(),", "Some(true) => {}")]),
-    fault("pause_drains_after", "a pause takes it out before it drains", &[("Some(false) => self.drain_to_clock(),", "Some(false) => {}"), ("self.set_aside(name);\n", "self.set_aside(name); self.drain_to_clock();\n")]),
-    fault("pause_not_stale", "a pause leaves the rates as they are", &[("self.set_aside(name);\n        self.flows.rates_dirty = true;", "self.set_aside(name);")]),
-    fault("pause_not_stale_back", "a resumption leaves the rates as they are", &[("self.put_back(name);\n        self.flows.rates_dirty = true;", "self.put_back(name);")]),
-    fault("pause_fills", "a pause fills", &[("self.set_aside(name);\n        self.flows.rates_dirty = true;", "self.set_aside(name); self.flows.rates_dirty = true; self.ensure_rates();")]),
-    fault("pause_keeps_rate", "a paused transfer shows its old rate", &[("transfer.rate = inward(0.0);\n", "")]),
-    fault("pause_keeps_bottleneck", "a paused transfer shows who froze it", &[("held_by_nobody(&mut transfer);\n", "")]),
-    fault("pause_rate_back", "a resumption brings the old rate back", &[FORMER, KEPT, PUSHED, (POPPED, "let Beside { name, slot, mut transfer, former } = self.beside.remove(place); transfer.rate = former.rate;\n")]),
-    fault("pause_bottleneck_back", "a resumption brings back who froze it", &[FORMER, KEPT, PUSHED, (POPPED, "let Beside { name, slot, mut transfer, former } = self.beside.remove(place); transfer.frozen_by = former.frozen_by;\n")]),
-    fault("pause_last_time", "a paused transfer's last time is that of its pause", &[("last: last_drain_of(&self.flows).unwrap_or(own.last), paused: true", "paused: true")]),
-    fault("pause_last_time_clock", "a paused transfer's last time is the clock", &[("last: last_drain_of(&self.flows).unwrap_or(own.last), paused: true", "last: outward(self.flows.now), paused: true")]),
-    fault("pause_time_is_paid_late", "resumed, it is drained over the time of its pause", &[("transfer.last_update = self.flows.now;\n", "")]),
-    fault("pause_again_unknown", "a second pause is told to be of an unknown id", &[("Some(true) => return Switched::Already,", "Some(true) => return Switched::Unknown,")]),
-    fault("pause_again_unknown_back", "a second resumption is told to be of an unknown id", &[("Some(false) => return Switched::Already,", "Some(false) => return Switched::Unknown,")]),
-    fault("pause_again_done", "a second pause is told to be done", &[("Some(true) => return Switched::Already,", "Some(true) => return Switched::Done,")]),
-    fault("pause_again_done_back", "a second resumption is told to be done", &[("Some(false) => return Switched::Already,", "Some(false) => return Switched::Done,")]),
-    fault("pause_unknown_already", "the pause of an unknown id is told to be one already", &[("None => return Switched::Unknown,\n            Some(true)", "None => return Switched::Already,\n            Some(true)")]),
-    fault("pause_unknown_already_back", "the resumption of an unknown id is told to be one already", &[("None => return Switched::Unknown,\n            Some(false)", "None => return Switched::Already,\n            Some(false)")]),
-    fault("pause_again_drains", "a second pause drains", &[("Some(true) => return Switched::Already,", "Some(true) => { self.drain_to_clock(); return Switched::Already; }")]),
-    fault("pause_again_drains_back", "a second resumption drains", &[("Some(false) => return Switched::Already,", "Some(false) => { self.drain_to_clock(); return Switched::Already; }")]),
-    fault("pause_unknown_drains", "the pause of an unknown id drains", &[("None => return Switched::Unknown,\n            Some(true)", "None => { self.drain_to_clock(); return Switched::Unknown; }\n            Some(true)")]),
-    fault("pause_unknown_drains_back", "the resumption of an unknown id drains", &[("None => return Switched::Unknown,\n            Some(false)", "None => { self.drain_to_clock(); return Switched::Unknown; }\n            Some(false)")]),
-    fault("pause_again_stale", "a second pause makes rates stale", &[("Some(true) => return Switched::Already,", "Some(true) => { self.flows.rates_dirty = true; return Switched::Already; }")]),
-    fault("pause_again_stale_back", "a second resumption makes rates stale", &[("Some(false) => return Switched::Already,", "Some(false) => { self.flows.rates_dirty = true; return Switched::Already; }")]),
-    fault(
-        "pause_slot_lost",
-        "the slot of a paused transfer is free for others",
-        &[
-            ("let (slot, transfer) = flows.in_flight.hold(name).expect(\"in the table\");", "let slot = flows.in_flight.slot(name).expect(\"in the table\"); let transfer = flows.in_flight.remove(name).expect(\"in the table\");"),
-            ("flows.in_flight.fill(slot.expect(\"a slot\"), name, transfer);", "flows.in_flight.insert(name, transfer);"),
-        ],
-    ),
-    fault(
-        "pause_slot_lowest",
-        "a resumed transfer takes the lowest free slot",
-        &[("flows.in_flight.fill(slot.expect(\"a slot\"), name, transfer);", "flows.in_flight.free(slot.expect(\"a slot\")); flows.in_flight.insert(name, transfer);")],
-    ),
-    fault("pause_slot_held", "the slot of one that is cancelled while paused is never used again", &[("flows.in_flight.free(slot.expect(\"a slot\"));", "")]),
-    fault("pause_id_free", "the id of a paused transfer is told to be free", &[("self.is_paused(&name_of(id)).is_some()", "Flows::contains(self, &name_of(id))")]),
-    fault("pause_not_in_flight", "paused transfers are not counted among those in flight", &[("self.num_in_flight() + self.beside.len()", "self.num_in_flight()")]),
-    fault("pause_not_in_peak", "paused transfers are not counted in the peak", &[("        self.raise_peak();\n", "")]),
-    fault("pause_peak_later", "a resumption raises the peak as a submission does, and a submission leaves paused ones out", &[("        self.raise_peak();\n", ""), ("self.put_back(name);\n", "self.put_back(name); self.flows.peak_in_flight = self.flows.peak_in_flight.max(self.flows.in_flight.len());\n")]),
-    fault("pause_no_cancel", "the cancel of a paused transfer says unknown", &[("self.transfer(&name_of(id)).map(|t| party_of(t.owner))", "self.in_flight.get(name_of(id).as_str()).map(|t| party_of(t.owner))")]),
-    fault("pause_cancel_no_drain", "the cancel of a paused transfer does not drain", &[("self.drain_to_clock();\n        let gone", "let gone")]),
-    fault("pause_cancel_not_stale", "the cancel of a paused transfer leaves the rates as they are", &[("let_go(&mut self.flows, gone.slot);\n        self.flows.rates_dirty = true;", "let_go(&mut self.flows, gone.slot);")]),
-    fault("pause_cancel_keeps", "a transfer that is cancelled while paused stays", &[("let gone = self.beside.remove(place);\n        let_go(&mut self.flows, gone.slot);", "")]),
-    fault("pause_outlives_new", "paused transfers outlive a new simulator", &[("*self = Driven::over(fresh);", "self.flows = fresh;")]),
-    // ---- pauses: the questions ----
-    fault("pause_time_unknown", "the time left of a paused transfer is unknown", &[("return Some(None);", "return None;")]),
-    fault("pause_time_of_latency", "the time left of a paused transfer without bytes is its latency", &[("return Some(None);", "return Some(Flows::time_to_done(self.transfer(&name)?, self.done_eps()).map(outward));")]),
-    fault("pause_rate_unknown", "the rate of a paused transfer is unknown", &[("self.transfer(&name_of(id)).map(|t| outward(t.rate))", "self.in_flight.get(name_of(id).as_str()).map(|t| outward(t.rate))")]),
-    fault("pause_bottleneck_unknown", "who froze a paused transfer is unknown", &[("self.transfer(&name_of(id)).map(bottleneck_of)", "self.in_flight.get(name_of(id).as_str()).map(bottleneck_of)")]),
-    fault(
-        "pause_rate_no_filling",
-        "the question for a paused transfer's rate does not fill",
-        &[("self.ensure_rates();\n        self.transfer(&name_of(id)).map(|t| outward(t.rate))", "if self.is_paused(&name_of(id)) != Some(true) { self.ensure_rates(); }\n        self.transfer(&name_of(id)).map(|t| outward(t.rate))")],
-    ),
-    fault(
-        "pause_bottleneck_no_filling",
-        "the question who froze a paused transfer does not fill",
-        &[("self.ensure_rates();\n        self.transfer(&name_of(id)).map(bottleneck_of)", "if self.is_paused(&name_of(id)) != Some(true) { self.ensure_rates(); }\n        self.transfer(&name_of(id)).map(bottleneck_of)")],
-    ),
 ];
 
 /// Edits that were looked at and change nothing, with the reason. The program makes sure that nothing tells them apart.
 pub const HARMLESS: &[Fault] = &[
-    fault(
-        "pause_by_mark",
-        "whoever is paused stays in the table with a mark, and seven places of the Rust look at it: another way to the same answers",
-        &[MARK, FRESH, SEEN, KNOWN, SET, CLEARED, NOT_DRAINED, NOT_DONE, NEVER, NOT_FILLED, NO_LOAD, NO_INTEGRAL, NOT_ESTIMATED],
-    ),
     fault(
         "rest_strict",
         "time to done, bytes < B: bytes between 0 and B only stand behind a paid latency, and then the transfer is done",

@@ -33,8 +33,8 @@ changing_requires_2 c κs = search rules
 enum_known_call_4 : tie.Need-enum-known-call-4
 enum_known_call_4 c = search rules
 
-pause_requires : tie.Need-pause-requires
-pause_requires c κs = search rules
+add_edge_requires : tie.Need-add-edge-requires
+add_edge_requires c κs = search rules
 
 changing_requires_3 : tie.Need-changing-requires-3
 changing_requires_3 c κs = search rules
@@ -42,8 +42,8 @@ changing_requires_3 c κs = search rules
 enum_known_call_5 : tie.Need-enum-known-call-5
 enum_known_call_5 c = search rules
 
-resume_requires : tie.Need-resume-requires
-resume_requires c κs = search rules
+widen_requires : tie.Need-widen-requires
+widen_requires c κs = search rules
 
 changing_requires_4 : tie.Need-changing-requires-4
 changing_requires_4 c κs = search rules
@@ -51,29 +51,11 @@ changing_requires_4 c κs = search rules
 enum_known_call_6 : tie.Need-enum-known-call-6
 enum_known_call_6 c = search rules
 
-add_edge_requires : tie.Need-add-edge-requires
-add_edge_requires c κs = search rules
-
-changing_requires_5 : tie.Need-changing-requires-5
-changing_requires_5 c κs = search rules
-
-enum_known_call_7 : tie.Need-enum-known-call-7
-enum_known_call_7 c = search rules
-
-widen_requires : tie.Need-widen-requires
-widen_requires c κs = search rules
-
-changing_requires_6 : tie.Need-changing-requires-6
-changing_requires_6 c κs = search rules
-
-enum_known_call_8 : tie.Need-enum-known-call-8
-enum_known_call_8 c = search rules
-
 take_completed_requires : tie.Need-take-completed-requires
 take_completed_requires c κs = search rules
 
-changing_requires_7 : tie.Need-changing-requires-7
-changing_requires_7 c κs = search rules
+changing_requires_5 : tie.Need-changing-requires-5
+changing_requires_5 c κs = search rules
 
 enum_told : tie.Need-enum-told
 enum_told c = search rules
@@ -90,11 +72,11 @@ enum_told_2 c = search rules
 next_completion_delay_requires : tie.Need-next-completion-delay-requires
 next_completion_delay_requires c κs = search rules
 
-changing_requires_8 : tie.Need-changing-requires-8
-changing_requires_8 c κs = search rules
+changing_requires_6 : tie.Need-changing-requires-6
+changing_requires_6 c κs = search rules
 
-enum_known_call_9 : tie.Need-enum-known-call-9
-enum_known_call_9 c = search rules
+enum_known_call_7 : tie.Need-enum-known-call-7
+enum_known_call_7 c = search rules
 
 estimate_requires : tie.Need-estimate-requires
 estimate_requires c κs = search rules
@@ -105,11 +87,11 @@ enum_told_3 c = search rules
 settle_requires : tie.Need-settle-requires
 settle_requires c κs = search rules
 
-changing_requires_9 : tie.Need-changing-requires-9
-changing_requires_9 c κs = search rules
+changing_requires_7 : tie.Need-changing-requires-7
+changing_requires_7 c κs = search rules
 
-enum_known_call_10 : tie.Need-enum-known-call-10
-enum_known_call_10 c = search rules
+enum_known_call_8 : tie.Need-enum-known-call-8
+enum_known_call_8 c = search rules
 
 remaining_requires : tie.Need-remaining-requires
 remaining_requires c κs = search rules
@@ -117,8 +99,8 @@ remaining_requires c κs = search rules
 asking_requires_2 : tie.Need-asking-requires-2
 asking_requires_2 c κs = search rules
 
-enum_known_call_11 : tie.Need-enum-known-call-11
-enum_known_call_11 c = search rules
+enum_known_call_9 : tie.Need-enum-known-call-9
+enum_known_call_9 c = search rules
 
 mean_in_flight_requires : tie.Need-mean-in-flight-requires
 mean_in_flight_requires c κs = search rules
@@ -126,26 +108,26 @@ mean_in_flight_requires c κs = search rules
 asking_requires_3 : tie.Need-asking-requires-3
 asking_requires_3 c κs = search rules
 
-enum_known_call_12 : tie.Need-enum-known-call-12
-enum_known_call_12 c = search rules
+enum_known_call_10 : tie.Need-enum-known-call-10
+enum_known_call_10 c = search rules
 
 rate_requires : tie.Need-rate-requires
 rate_requires c κs = search rules
 
-changing_requires_10 : tie.Need-changing-requires-10
-changing_requires_10 c κs = search rules
+changing_requires_8 : tie.Need-changing-requires-8
+changing_requires_8 c κs = search rules
 
-enum_known_call_13 : tie.Need-enum-known-call-13
-enum_known_call_13 c = search rules
+enum_known_call_11 : tie.Need-enum-known-call-11
+enum_known_call_11 c = search rules
 
 bottleneck_requires : tie.Need-bottleneck-requires
 bottleneck_requires c κs = search rules
 
-changing_requires_11 : tie.Need-changing-requires-11
-changing_requires_11 c κs = search rules
+changing_requires_9 : tie.Need-changing-requires-9
+changing_requires_9 c κs = search rules
 
-enum_known_call_14 : tie.Need-enum-known-call-14
-enum_known_call_14 c = search rules
+enum_known_call_12 : tie.Need-enum-known-call-12
+enum_known_call_12 c = search rules
 
 edge_requires : tie.Need-edge-requires
 edge_requires c κs = search rules
@@ -153,8 +135,8 @@ edge_requires c κs = search rules
 asking_requires_4 : tie.Need-asking-requires-4
 asking_requires_4 c κs = search rules
 
-enum_known_call_15 : tie.Need-enum-known-call-15
-enum_known_call_15 c = search rules
+enum_known_call_13 : tie.Need-enum-known-call-13
+enum_known_call_13 c = search rules
 
 contains_requires : tie.Need-contains-requires
 contains_requires c κs = search rules
@@ -197,104 +179,92 @@ returns_4 : tie.Need-returns-4
 unfolding call
 returns_4 c =
     let is = c.before.before.before.call4.given.1 in
-    (rw (is, c.changing3.ensures, c.before.pause.ensures.0) refl, (rw is refl, rw c.changing3.ensures c.before.pause.ensures.1))
+    (rw (is, c.changing3.ensures, c.before.add_edge.ensures.0) refl, (rw is refl, rw c.changing3.ensures c.before.add_edge.ensures.1))
 
 returns_5 : tie.Need-returns-5
 unfolding call
 returns_5 c =
     let is = c.before.before.before.call5.given.1 in
-    (rw (is, c.changing4.ensures, c.before.resume.ensures.0) refl, (rw is refl, rw c.changing4.ensures c.before.resume.ensures.1))
-
-returns_6 : tie.Need-returns-6
-unfolding call
-returns_6 c =
-    let is = c.before.before.before.call6.given.1 in
-    (rw (is, c.changing5.ensures, c.before.add_edge.ensures.0) refl, (rw is refl, rw c.changing5.ensures c.before.add_edge.ensures.1))
-
-returns_7 : tie.Need-returns-7
-unfolding call
-returns_7 c =
-    let is = c.before.before.before.call7.given.1 in
-    (rw (is, c.changing6.ensures, c.before.widen.ensures.0) refl, (rw is refl, rw c.changing6.ensures c.before.widen.ensures.1))
+    (rw (is, c.changing4.ensures, c.before.widen.ensures.0) refl, (rw is refl, rw c.changing4.ensures c.before.widen.ensures.1))
 
 same_length_2 : tie.Need-same-length-2
 same_length_2 c = search rules
 
-returns_8 : tie.Need-returns-8
+returns_6 : tie.Need-returns-6
 unfolding call
-returns_8 c =
-    let is = c.before.before.before.before.before.before.call8.given.1 in
+returns_6 c =
+    let is = c.before.before.before.before.before.before.call6.given.1 in
     let lists = c.before.before.before.take_completed.ensures in
-    (rw (is, c.changing7.ensures, lists.0) refl, (rw is lists.1.0, rw c.changing7.ensures lists.1.1))
+    (rw (is, c.changing5.ensures, lists.0) refl, (rw is lists.1.0, rw c.changing5.ensures lists.1.1))
 
 same_length_3 : tie.Need-same-length-3
 same_length_3 c = search rules
 
-returns_9 : tie.Need-returns-9
+returns_7 : tie.Need-returns-7
 unfolding call
-returns_9 c =
+returns_7 c =
     let start = c.before.before.before.before.before.before.before.before.before in
     let is = c.before.before.before.before.before.enum_told.given.1 in
     let lists = c.before.before.before.owners_with_completions.ensures in
     (rw (is, c.asking.ensures, lists.0) (owners_asked start.args.flows start.args.lent.now), (rw is lists.1, rw c.asking.ensures start.requires))
 
+returns_8 : tie.Need-returns-8
+unfolding call
+returns_8 c =
+    let is = c.before.before.enum-told2.given.1 in
+    (rw (is, c.changing6.ensures, c.before.next_completion_delay.ensures.0) refl, (rw is refl, rw c.changing6.ensures c.before.next_completion_delay.ensures.1))
+
+returns_9 : tie.Need-returns-9
+unfolding call
+returns_9 c =
+    let is = c.before.before.call7.given.1 in
+    (rw (is, c.estimate.ensures) refl, (rw is refl, rw c.estimate.ensures c.before.before.before.before.before.before.requires))
+
 returns_10 : tie.Need-returns-10
 unfolding call
 returns_10 c =
-    let is = c.before.before.enum-told2.given.1 in
-    (rw (is, c.changing8.ensures, c.before.next_completion_delay.ensures.0) refl, (rw is refl, rw c.changing8.ensures c.before.next_completion_delay.ensures.1))
+    let is = c.before.before.enum-told3.given.1 in
+    (rw (is, c.changing7.ensures, c.before.settle.ensures.0) refl, (rw is refl, rw c.changing7.ensures c.before.settle.ensures.1))
 
 returns_11 : tie.Need-returns-11
 unfolding call
 returns_11 c =
-    let is = c.before.before.call9.given.1 in
-    (rw (is, c.estimate.ensures) refl, (rw is refl, rw c.estimate.ensures c.before.before.before.before.before.before.requires))
+    let is = c.before.before.before.call8.given.1 in
+    (rw (is, c.asking2.ensures, c.before.remaining.ensures) refl, (rw is refl, rw c.asking2.ensures c.before.before.before.before.before.before.before.requires))
 
 returns_12 : tie.Need-returns-12
 unfolding call
 returns_12 c =
-    let is = c.before.before.enum-told3.given.1 in
-    (rw (is, c.changing9.ensures, c.before.settle.ensures.0) refl, (rw is refl, rw c.changing9.ensures c.before.settle.ensures.1))
+    let is = c.before.before.before.call9.given.1 in
+    (rw (is, c.asking3.ensures, c.before.mean_in_flight.ensures) refl, (rw is refl, rw c.asking3.ensures c.before.before.before.before.before.before.before.requires))
 
 returns_13 : tie.Need-returns-13
 unfolding call
 returns_13 c =
     let is = c.before.before.before.call10.given.1 in
-    (rw (is, c.asking2.ensures, c.before.remaining.ensures) refl, (rw is refl, rw c.asking2.ensures c.before.before.before.before.before.before.before.requires))
+    (rw (is, c.changing8.ensures, c.before.rate.ensures.0) refl, (rw is refl, rw c.changing8.ensures c.before.rate.ensures.1))
 
 returns_14 : tie.Need-returns-14
 unfolding call
 returns_14 c =
     let is = c.before.before.before.call11.given.1 in
-    (rw (is, c.asking3.ensures, c.before.mean_in_flight.ensures) refl, (rw is refl, rw c.asking3.ensures c.before.before.before.before.before.before.before.requires))
+    (rw (is, c.changing9.ensures, c.before.bottleneck.ensures.0) refl, (rw is refl, rw c.changing9.ensures c.before.bottleneck.ensures.1))
 
 returns_15 : tie.Need-returns-15
 unfolding call
 returns_15 c =
     let is = c.before.before.before.call12.given.1 in
-    (rw (is, c.changing10.ensures, c.before.rate.ensures.0) refl, (rw is refl, rw c.changing10.ensures c.before.rate.ensures.1))
+    (rw (is, c.asking4.ensures, c.before.edge.ensures) refl, (rw is refl, rw c.asking4.ensures c.before.before.before.before.before.before.before.requires))
 
 returns_16 : tie.Need-returns-16
 unfolding call
 returns_16 c =
     let is = c.before.before.before.call13.given.1 in
-    (rw (is, c.changing11.ensures, c.before.bottleneck.ensures.0) refl, (rw is refl, rw c.changing11.ensures c.before.bottleneck.ensures.1))
+    (rw (is, c.asking5.ensures, c.before.contains.ensures) refl, (rw is refl, rw c.asking5.ensures c.before.before.before.before.before.before.before.requires))
 
 returns_17 : tie.Need-returns-17
 unfolding call
 returns_17 c =
-    let is = c.before.before.before.call14.given.1 in
-    (rw (is, c.asking4.ensures, c.before.edge.ensures) refl, (rw is refl, rw c.asking4.ensures c.before.before.before.before.before.before.before.requires))
-
-returns_18 : tie.Need-returns-18
-unfolding call
-returns_18 c =
-    let is = c.before.before.before.call15.given.1 in
-    (rw (is, c.asking5.ensures, c.before.contains.ensures) refl, (rw is refl, rw c.asking5.ensures c.before.before.before.before.before.before.before.requires))
-
-returns_19 : tie.Need-returns-19
-unfolding call
-returns_19 c =
     let is = c.before.before.enum-told4.given.1 in
     (rw (is, c.asking6.ensures, c.before.rounds.ensures) refl, (rw is refl, rw c.asking6.ensures c.before.before.before.before.before.before.requires))
 
@@ -311,47 +281,41 @@ make_spec =
     cancel_requires
     changing_requires_2
     enum_known_call_4
-    pause_requires
+    add_edge_requires
     changing_requires_3
     enum_known_call_5
-    resume_requires
+    widen_requires
     changing_requires_4
     enum_known_call_6
-    add_edge_requires
-    changing_requires_5
-    enum_known_call_7
-    widen_requires
-    changing_requires_6
-    enum_known_call_8
     take_completed_requires
-    changing_requires_7
+    changing_requires_5
     enum_told
     owners_with_completions_requires
     asking_requires
     enum_told_2
     next_completion_delay_requires
-    changing_requires_8
-    enum_known_call_9
+    changing_requires_6
+    enum_known_call_7
     estimate_requires
     enum_told_3
     settle_requires
-    changing_requires_9
-    enum_known_call_10
+    changing_requires_7
+    enum_known_call_8
     remaining_requires
     asking_requires_2
-    enum_known_call_11
+    enum_known_call_9
     mean_in_flight_requires
     asking_requires_3
-    enum_known_call_12
+    enum_known_call_10
     rate_requires
-    changing_requires_10
-    enum_known_call_13
+    changing_requires_8
+    enum_known_call_11
     bottleneck_requires
-    changing_requires_11
-    enum_known_call_14
+    changing_requires_9
+    enum_known_call_12
     edge_requires
     asking_requires_4
-    enum_known_call_15
+    enum_known_call_13
     contains_requires
     asking_requires_5
     enum_told_4
@@ -363,11 +327,11 @@ make_spec =
     returns_3
     returns_4
     returns_5
-    returns_6
-    returns_7
     same_length_2
-    returns_8
+    returns_6
     same_length_3
+    returns_7
+    returns_8
     returns_9
     returns_10
     returns_11
@@ -376,6 +340,4 @@ make_spec =
     returns_14
     returns_15
     returns_16
-    returns_17
-    returns_18
-    returns_19)
+    returns_17)

@@ -7,10 +7,10 @@ use Rattle.rules.specs.declared.Flows.{Flows}
 use Rattle.rules.specs.Records.{free, contains, tally_of, with_in_flight}
 use Rattle.rules.specs.Cancel.{cancel}
 use Rattle.rules.proofs.Steps.{get_d_any}
-use Rattle.slots.proofs.Found.{nowhere, somewhere, found_below}
+use Rattle.slots.proofs.Found.{nowhere, somewhere}
 use Rattle.keeps.proofs.Calls.{cancel_keeps}
 use Rattle.keeps.proofs.Kept.{kept}
-use Rattle.cancel.proofs.Freed.{drained_tally, cancelled_is, room_to_cancel}
+use Rattle.cancel.proofs.Freed.{found_below, drained_tally, cancelled_is, room_to_cancel}
 use Rattle.cancel.proofs.cancel.Statement.{statement}
 use Rattle.cancel.proofs.cancel.Tie as tie
 

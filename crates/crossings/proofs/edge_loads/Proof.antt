@@ -1,4 +1,4 @@
--- `edge_loads` counts all that count in loads. Assumes nothing.
+-- `edge_loads` counts all in flight. Assumes nothing.
 use borrow.Author.Rules.{rules}
 use Rattle.crossings.specs.Loads.{counts}
 use Rattle.crossings.proofs.edge_loads.Statement.{statement}

@@ -7,12 +7,9 @@ use Rattle.draining.proofs.flowing_time.Tie as tie
 latency_paid_requires : tie.Need-latency-paid-requires
 latency_paid_requires c κs = search rules
 
-drain_time_requires : tie.Need-drain-time-requires
-drain_time_requires c κs = search rules
-
 returns : tie.Need-returns
 unfolding flowing_time
-returns c = rw (c.before.latency_paid.ensures, c.drain_time.ensures)
+returns c = rw c.before.latency_paid.ensures
 
 pub flowing_time_spec : {M : Type 1} → statement M
-flowing_time_spec = tie.close (tie.spec latency_paid_requires drain_time_requires returns)
+flowing_time_spec = tie.close (tie.spec latency_paid_requires returns)

@@ -4,15 +4,12 @@ use borrow.Author.Rules.{rules}
 use Rattle.draining.proofs.latency_paid.Statement.{statement}
 use Rattle.draining.proofs.latency_paid.Tie as tie
 
-drain_time_requires : tie.Need-drain-time-requires
-drain_time_requires c κs = search rules
-
 smaller_requires : tie.Need-smaller-requires
 smaller_requires c κs = search rules
 
 returns : tie.Need-returns
 unfolding latency_paid
-returns c = rw (c.smaller.ensures, c.before.drain_time.ensures)
+returns c = rw c.smaller.ensures
 
 pub latency_paid_spec : {M : Type 1} → statement M
-latency_paid_spec = tie.close (tie.spec drain_time_requires smaller_requires returns)
+latency_paid_spec = tie.close (tie.spec smaller_requires returns)

@@ -21,10 +21,10 @@ use Rattle.session.proofs.renewed.Tie as tie
 
 -- The place of a refusal among the answers, and those of the others.
 abbrev refusal : ℕ
-refusal = 10
+refusal = 9
 
 abbrev others : List ℕ
-others = 0 ∷ 1 ∷ 2 ∷ 3 ∷ 4 ∷ 5 ∷ 6 ∷ 7 ∷ 8 ∷ 9 ∷ []
+others = 0 ∷ 1 ∷ 2 ∷ 3 ∷ 4 ∷ 5 ∷ 6 ∷ 7 ∷ 8 ∷ []
 
 -- Any answer but a refusal.
 abbrev Otherwise : Answer → Type 0

@@ -44,8 +44,8 @@ put_text_requires_2 c κs = search rules
 unwritten_requires : tie.Need-unwritten-requires
 unwritten_requires c κs = search rules
 
-one_word_requires : tie.Need-one-word-requires
-one_word_requires c κs = search rules
+no_time_requires : tie.Need-no-time-requires
+no_time_requires c κs = search rules
 
 slice_aggregate_put_text_3 : tie.Need-slice-aggregate-put-text-3
 slice_aggregate_put_text_3 c = search rules
@@ -133,7 +133,7 @@ answer_spec =
     slice_aggregate_put_text_2
     put_text_requires_2
     unwritten_requires
-    one_word_requires
+    no_time_requires
     slice_aggregate_put_text_3
     put_text_requires_3
     enum_known_answer_3

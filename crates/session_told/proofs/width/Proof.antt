@@ -1,6 +1,5 @@
 -- `session_told::width` is the definition, case by case. Assumes nothing.
 use Rattle.flows.specs.Fits.{width_of}
-use mathlib.Core.Path.{refl}
 use borrow.Author.Rules.{rules}
 use Rattle.session_told.proofs.width.Statement.{statement}
 use Rattle.session_told.proofs.width.Tie as tie
@@ -56,87 +55,73 @@ enum_told_16 c = search rules
 enum_told_17 : tie.Need-enum-told-17
 enum_told_17 c = search rules
 
-enum_told_18 : tie.Need-enum-told-18
-enum_told_18 c = search rules
-
-enum_told_19 : tie.Need-enum-told-19
-enum_told_19 c = search rules
-
 returns : tie.Need-returns
 unfolding width_of
-returns c = rw c.enum_told.given.1 refl
+returns c = search rules
 
 returns_2 : tie.Need-returns-2
 unfolding width_of
-returns_2 c = rw c.enum-told2.given.1 refl
+returns_2 c = search rules
 
 returns_3 : tie.Need-returns-3
 unfolding width_of
-returns_3 c = rw c.enum-told3.given.1 refl
+returns_3 c = search rules
 
 returns_4 : tie.Need-returns-4
 unfolding width_of
-returns_4 c = rw c.enum-told4.given.1 refl
+returns_4 c = search rules
 
 returns_5 : tie.Need-returns-5
 unfolding width_of
-returns_5 c = rw c.enum-told5.given.1 refl
+returns_5 c = search rules
 
 returns_6 : tie.Need-returns-6
 unfolding width_of
-returns_6 c = rw c.enum-told6.given.1 refl
+returns_6 c = search rules
 
 returns_7 : tie.Need-returns-7
 unfolding width_of
-returns_7 c = rw c.enum-told7.given.1 refl
+returns_7 c = search rules
 
 returns_8 : tie.Need-returns-8
 unfolding width_of
-returns_8 c = rw c.enum-told8.given.1 refl
+returns_8 c = search rules
 
 returns_9 : tie.Need-returns-9
 unfolding width_of
-returns_9 c = rw c.enum-told9.given.1 refl
+returns_9 c = search rules
 
 returns_10 : tie.Need-returns-10
 unfolding width_of
-returns_10 c = rw c.enum-told10.given.1 refl
+returns_10 c = search rules
 
 returns_11 : tie.Need-returns-11
 unfolding width_of
-returns_11 c = rw c.enum-told11.given.1 refl
+returns_11 c = search rules
 
 returns_12 : tie.Need-returns-12
 unfolding width_of
-returns_12 c = rw c.enum-told12.given.1 refl
+returns_12 c = search rules
 
 returns_13 : tie.Need-returns-13
 unfolding width_of
-returns_13 c = rw c.enum-told13.given.1 refl
+returns_13 c = search rules
 
 returns_14 : tie.Need-returns-14
 unfolding width_of
-returns_14 c = rw c.enum-told14.given.1 refl
+returns_14 c = search rules
 
 returns_15 : tie.Need-returns-15
 unfolding width_of
-returns_15 c = rw c.enum-told15.given.1 refl
+returns_15 c = search rules
 
 returns_16 : tie.Need-returns-16
 unfolding width_of
-returns_16 c = rw c.enum-told16.given.1 refl
+returns_16 c = search rules
 
 returns_17 : tie.Need-returns-17
 unfolding width_of
-returns_17 c = rw c.enum-told17.given.1 refl
-
-returns_18 : tie.Need-returns-18
-unfolding width_of
-returns_18 c = rw c.enum-told18.given.1 refl
-
-returns_19 : tie.Need-returns-19
-unfolding width_of
-returns_19 c = rw c.enum-told19.given.1 refl
+returns_17 c = search rules
 
 pub width_spec : {M : Type 1} → statement M
 width_spec =
@@ -159,8 +144,6 @@ width_spec =
     enum_told_15
     enum_told_16
     enum_told_17
-    enum_told_18
-    enum_told_19
     returns
     returns_2
     returns_3
@@ -177,6 +160,4 @@ width_spec =
     returns_14
     returns_15
     returns_16
-    returns_17
-    returns_18
-    returns_19)
+    returns_17)

@@ -5,10 +5,10 @@ use Rattle.test_hundred.proofs.main.Statement.{statement}
 use Rattle.test_hundred.proofs.main.Tie as tie
 
 abbrev invariant_loop : tie.invariant_loop
-invariant_loop lent₀ flows₀ counts₀ n₀ lent flows counts n = Invariant flows × (n ≤ 3100)
+invariant_loop lent₀ flows₀ counts₀ n₀ lent flows counts n = Invariant flows × (n ≤ 2900)
 
 abbrev decreases_loop : tie.decreases_loop
-decreases_loop lent₀ flows₀ counts₀ n₀ lent flows counts n = 3100 - n
+decreases_loop lent₀ flows₀ counts₀ n₀ lent flows counts n = 2900 - n
 
 new_requires : tie.Need-new-requires invariant_loop decreases_loop
 new_requires c κs = search rules

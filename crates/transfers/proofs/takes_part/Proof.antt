@@ -5,16 +5,12 @@ use Rattle.transfers.proofs.takes_part.Statement.{statement}
 use Rattle.transfers.proofs.takes_part.Tie as tie
 
 returns : tie.Need-returns
-unfolding takes_part
-returns c = rw (c.before.if1.true, c.if2.true)
+unfolding takes_part of_bits round
+returns c = rw c.before.if1.true
 
 returns_2 : tie.Need-returns-2
-unfolding takes_part of_bits round
-returns_2 c = rw (c.before.before.if1.true, c.before.if2.false)
-
-returns_3 : tie.Need-returns-3
 unfolding takes_part
-returns_3 c = rw c.if1.false
+returns_2 c = rw c.if1.false
 
 pub takes_part_spec : {M : Type 1} → statement M
-takes_part_spec = tie.close (tie.spec returns returns_2 returns_3)
+takes_part_spec = tie.close (tie.spec returns returns_2)

@@ -51,16 +51,6 @@ pub struct TransferView {
     pub path: Vec<usize>,
     /// Only the patched copies record it.
     pub by: Option<Bottleneck>,
-    pub paused: bool,
-}
-
-/// What a pause or a resumption comes to.
-#[derive(Clone, Copy, Debug, PartialEq, Eq)]
-pub enum Switched {
-    Done,
-    Unknown,
-    /// It is so already; nothing has changed, as with an unknown id.
-    Already,
 }
 
 pub trait Simulator {
@@ -74,9 +64,6 @@ pub trait Simulator {
     fn submit(&mut self, submission: &Submission);
     fn advance(&mut self, time: Double) -> Vec<(Party, u32)>;
     fn cancel(&mut self, id: u32);
-    /// By hand in all copies, for the Rust has no pause: drained to the clock, out of its table or into it again, and rates stale.
-    fn pause(&mut self, id: u32) -> Switched;
-    fn resume(&mut self, id: u32) -> Switched;
     /// The ids of an owner, ascending; none where nothing waits.
     fn take_completed(&mut self, owner: Party) -> Vec<u32>;
     fn owners_with_completions(&self) -> Vec<Party>;
@@ -86,7 +73,7 @@ pub trait Simulator {
     fn estimate_remaining(&mut self, id: u32) -> Double;
     /// Drains to the clock, and fills where rates are stale: the Rust's own question of a name that nobody has.
     fn settle(&mut self);
-    /// How long a transfer takes by the state as it stands, with eps at the clock: none for an unknown id, and no time for one that can't finish or is paused.
+    /// How long a transfer takes by the state as it stands, with eps at the clock: none for an unknown id, and no time for one that can't finish.
     fn time_left(&self, id: u32) -> Option<Option<Double>>;
     /// Brings rates up to date and reads one.
     fn rate(&mut self, id: u32) -> Option<Double>;
@@ -99,17 +86,14 @@ pub trait Simulator {
     fn next_done(&self) -> Option<Double>;
     /// The seconds that count as none at any clock.
     fn floor(&self) -> Double;
-    /// When everybody was last drained. The patched copies record it; as given it is read off whoever is in flight and not paused, and where nobody is there is none.
+    /// When everybody was last drained. The patched copies record it; as given it is read off whoever is in flight, and where nobody is there is none.
     fn last_drain(&self) -> Option<Double>;
     /// Rounds of the last filling; only the patched copies count them.
     fn rounds(&self) -> Option<u64>;
     fn edges(&self) -> usize;
     fn edge(&self, edge: usize) -> EdgeView;
     fn contains(&self, id: u32) -> bool;
-    /// Paused ones too, as in all that follows.
     fn in_flight(&self) -> usize;
-    /// The ids of those who are paused, ascending.
-    fn paused(&self) -> Vec<u32>;
     fn peak(&self) -> usize;
     /// Submissions by kind: worker, hand-off, write.
     fn submitted(&self) -> [u64; 3];

@@ -10,21 +10,19 @@ pub type NeverAgain<K, V> = Odd<K, V, 2>;
 #[derive(Clone, Debug)]
 pub struct Odd<K, V, const WRONG: u8> {
     slots: Vec<Option<(K, V)>>,
-    held: Vec<usize>,
 }
 
 impl<K, V, const WRONG: u8> Default for Odd<K, V, WRONG> {
     fn default() -> Self {
-        Self { slots: Vec::new(), held: Vec::new() }
+        Self { slots: Vec::new() }
     }
 }
 
 impl<K: PartialEq, V, const WRONG: u8> Odd<K, V, WRONG> {
     pub fn insert(&mut self, key: K, value: V) {
-        let mut free = (0..self.slots.len()).filter(|slot| self.slots[*slot].is_none() && !self.held.contains(slot));
         let free = match WRONG {
-            0 => free.next(),
-            1 => free.next_back(),
+            0 => self.slots.iter().position(Option::is_none),
+            1 => self.slots.iter().rposition(Option::is_none),
             _ => None,
         };
         match free {
@@ -76,24 +74,6 @@ impl<K: PartialEq, V, const WRONG: u8> Odd<K, V, WRONG> {
         K: Borrow<Q>,
     {
         self.slots.iter().position(|place| place.as_ref().is_some_and(|(k, _)| k.borrow() == key))
-    }
-
-    pub fn hold<Q: ?Sized + PartialEq>(&mut self, key: &Q) -> Option<(usize, V)>
-    where
-        K: Borrow<Q>,
-    {
-        let slot = self.slot(key)?;
-        self.held.push(slot);
-        self.slots[slot].take().map(|(_, value)| (slot, value))
-    }
-
-    pub fn fill(&mut self, slot: usize, key: K, value: V) {
-        self.free(slot);
-        self.slots[slot] = Some((key, value));
-    }
-
-    pub fn free(&mut self, slot: usize) {
-        self.held.retain(|held| *held != slot);
     }
 }
 

@@ -4,7 +4,7 @@
 //! 1. every + - * / that flows.rs did was exact, in slot order and in hash order, its running sums in every order
 //!    (the checked copies note this, see copies::checked), and
 //! 2. no accepted `cancel` of a known id, `widen` or `add_edge` came while some transfer was last drained before the clock,
-//!    as quiet advances leave it. Paused ones don't count here, neither given up nor left behind: what is done with them by hand drains in both copies.
+//!    as quiet advances leave it.
 //!
 //! Such a `new` has the floor that the Rust has, left out or given; behind one with another floor nothing lies in the domain.
 //! `run_until` and `finish` count as the calls that they are made of. Calls that are refused or can't be read change nothing and stay in. The first call outside takes the rest of its
@@ -68,7 +68,7 @@ impl Judge {
     /// The three calls that drain to the clock in the patched copy alone.
     fn drains_only_when_patched(&self, call: &Call) -> bool {
         match call {
-            Call::Cancel { id } => self.patched.sim.contains(*id) && !self.patched.sim.paused().contains(id),
+            Call::Cancel { id } => self.patched.sim.contains(*id),
             Call::Widen { .. } | Call::AddEdge { .. } => self.patched.refusal(call).is_none(),
             _ => false,
         }
@@ -77,7 +77,7 @@ impl Judge {
     /// Whether a drain to the clock would move anybody.
     fn is_behind(&self) -> bool {
         let sim = &self.patched.sim;
-        sim.transfers().iter().any(|t| !t.paused && t.last < sim.now())
+        sim.transfers().iter().any(|t| t.last < sim.now())
     }
 }
 
@@ -99,17 +99,6 @@ mod tests {
         assert_eq!(after(&["cancel 2", "widen 7 1", "cancel 1"]), [true, true, false]);
         assert_eq!(after(&["remaining 1", "settle", "remaining 1", "add_edge 3"]), [true, true, true, true]);
         assert_eq!(after(&["advance 10 768", "advance 12 768", "add_edge 3"]), [true, true, true]);
-    }
-
-    #[test]
-    fn what_is_done_by_hand_drains_in_both_copies() {
-        let start = ["add_edge 10", "submit 1 0 0 100 0 - 0 1 0", "submit 2 0 0 100 0 - 0 1 0", "next_completion_delay", "advance 2 768"];
-        let after = |calls: &[&str]| admitted(&[&start, calls].concat())[start.len()..].to_vec();
-        assert_eq!(after(&["pause 1", "widen 0 10", "resume 1", "cancel 1"]), [true; 4]);
-        // A quiet advance behind the pause leaves the other one behind, and then nobody but who is paused.
-        assert_eq!(after(&["pause 1", "next_completion_delay", "advance 3 768", "cancel 1", "widen 0 10"]), [true; 5]);
-        assert_eq!(after(&["pause 1", "next_completion_delay", "advance 3 768", "cancel 2", "now"]), [true, true, true, false, false]);
-        assert_eq!(after(&["pause 1", "pause 2", "next_completion_delay", "advance 3 768", "widen 0 10", "dump", "resume 1", "dump"]), [true; 8]);
     }
 
     #[test]

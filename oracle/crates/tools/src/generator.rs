@@ -54,8 +54,6 @@ enum Kind {
     Submit,
     Advance,
     Cancel,
-    Pause,
-    Resume,
     Widen,
     AddEdge,
     Take,
@@ -78,12 +76,10 @@ enum Kind {
     New,
 }
 
-const KINDS: [Kind; 25] = [
+const KINDS: [Kind; 23] = [
     Kind::Submit,
     Kind::Advance,
     Kind::Cancel,
-    Kind::Pause,
-    Kind::Resume,
     Kind::Widen,
     Kind::AddEdge,
     Kind::Take,
@@ -106,11 +102,11 @@ const KINDS: [Kind; 25] = [
     Kind::New,
 ];
 
-const USUAL: [usize; 25] = [44, 40, 10, 7, 8, 6, 4, 8, 5, 14, 10, 5, 9, 5, 11, 12, 7, 4, 3, 7, 5, 4, 8, 1, 3];
+const USUAL: [usize; 23] = [44, 40, 10, 6, 4, 8, 5, 14, 10, 5, 9, 5, 11, 12, 7, 4, 3, 7, 5, 4, 8, 1, 3];
 /// More submissions than completions.
-const BUSY: [usize; 25] = [90, 30, 10, 8, 9, 6, 4, 8, 5, 12, 10, 5, 9, 5, 11, 14, 7, 4, 3, 7, 5, 4, 8, 2, 3];
+const BUSY: [usize; 23] = [90, 30, 10, 6, 4, 8, 5, 12, 10, 5, 9, 5, 11, 14, 7, 4, 3, 7, 5, 4, 8, 2, 3];
 /// Many submissions, few completions, and dumps seldom, for they are long; a crowd that is finished is none.
-const CROWDED: [usize; 25] = [400, 60, 12, 10, 12, 4, 4, 10, 8, 16, 12, 6, 8, 5, 14, 24, 8, 8, 4, 8, 6, 2, 10, 0, 6];
+const CROWDED: [usize; 23] = [400, 60, 12, 4, 4, 10, 8, 16, 12, 6, 8, 5, 14, 24, 8, 8, 4, 8, 6, 2, 10, 0, 6];
 
 /// Small numbers, and beside them numbers with many divisors: more of their shares come out whole.
 const WHOLE_CAPACITIES: [&[f64]; 2] = [
@@ -222,11 +218,10 @@ impl Generator {
         if length > 1 {
             self.emit(Call::Dump.to_string());
         }
-        if self.random.chance(if self.profile == Profile::Crowd { 100 } else { 30 }) && self.finish() {
+        if self.random.chance(if self.profile == Profile::Crowd { 100 } else { 30 }) && self.offer(Call::Finish) {
             self.emit(Call::Counts.to_string());
             if self.random.chance(30) {
-                // A drain with nobody in flight, or nobody who is not paused.
-                self.offer(Call::NextCompletionDelay);
+                // A drain with nobody in flight.
                 let time = self.time();
                 self.offer(Call::Advance { time, places: AMPLE });
                 self.offer(Call::Settle);
@@ -234,16 +229,6 @@ impl Generator {
             }
         }
         self.lines.truncate(start + room);
-    }
-
-    /// Until nobody is ever done: paused ones are left, or resumed before.
-    fn finish(&mut self) -> bool {
-        if self.random.chance(70) {
-            for id in self.session.sim.paused() {
-                self.offer(Call::Resume { id });
-            }
-        }
-        self.offer(Call::Finish)
     }
 
     /// A fresh simulator, at times with a floor. Under `whole` that is the Rust's own, for behind another one nothing lies in the domain.
@@ -270,15 +255,15 @@ impl Generator {
 
     /// One line more, or a few.
     fn step(&mut self) {
-        if self.profile == Profile::Wrong && self.random.chance(81) {
+        if self.profile == Profile::Wrong && self.random.chance(76) {
             let line = self.wrong_line();
             return self.emit(line);
         }
         // So many steps of a hundred are some lines aimed at one place.
         let aimed = match self.profile {
-            Profile::Whole => 9,
-            Profile::Wrong => 28,
-            _ => 21,
+            Profile::Whole => 6,
+            Profile::Wrong => 20,
+            _ => 15,
         };
         if self.random.chance(aimed) {
             return self.aim();
@@ -326,8 +311,6 @@ impl Generator {
             Kind::Submit => self.submit(),
             Kind::Advance => Call::Advance { time: self.time(), places: self.places() },
             Kind::Cancel => Call::Cancel { id: self.known_id() },
-            Kind::Pause => Call::Pause { id: self.id_to_pause() },
-            Kind::Resume => Call::Resume { id: self.id_to_resume() },
             Kind::Widen => Call::Widen { edge: self.edge(), amount: self.amount() },
             Kind::AddEdge => self.add_edge(),
             Kind::Take => Call::TakeCompleted { owner: self.waiting_owner(), places: self.places() },
@@ -576,19 +559,6 @@ impl Generator {
         *self.random.pick(&ids)
     }
 
-    /// Of somebody who is not paused, but for a few.
-    fn id_to_pause(&mut self) -> u32 {
-        let paused = self.session.sim.paused();
-        let others: Vec<u32> = self.session.sim.ids().into_iter().filter(|id| !paused.contains(id)).collect();
-        if others.is_empty() || self.random.chance(15) { self.known_id() } else { *self.random.pick(&others) }
-    }
-
-    /// Of somebody who is paused, but for a few.
-    fn id_to_resume(&mut self) -> u32 {
-        let paused = self.session.sim.paused();
-        if paused.is_empty() || self.random.chance(15) { self.known_id() } else { *self.random.pick(&paused) }
-    }
-
     fn owner(&mut self) -> Party {
         match self.random.below(10) {
             0..=1 => Party::Handoff,
@@ -692,8 +662,7 @@ impl Generator {
                 _ => *until = bad,
             },
             Call::Edge { edge } => *edge = absent,
-            Call::Cancel { id } | Call::Pause { id } | Call::Resume { id } => *id = 777,
-            Call::Rate { id } | Call::Bottleneck { id } | Call::Remaining { id } | Call::Contains { id } => *id = 777,
+            Call::Cancel { id } | Call::Rate { id } | Call::Bottleneck { id } | Call::Remaining { id } | Call::Contains { id } => *id = 777,
             Call::TakeCompleted { places, .. } | Call::OwnersWithCompletions { places } => *places = self.random.below(2),
             _ => {}
         }

@@ -19,8 +19,6 @@ pub enum Call {
     RunUntil { time: f64 },
     Finish,
     Cancel { id: u32 },
-    Pause { id: u32 },
-    Resume { id: u32 },
     TakeCompleted { owner: Party, places: usize },
     OwnersWithCompletions { places: usize },
     NextCompletionDelay,
@@ -117,8 +115,6 @@ impl<'a> Words<'a> {
             "run_until" => Call::RunUntil { time: self.double()? },
             "finish" => Call::Finish,
             "cancel" => Call::Cancel { id: self.number()? },
-            "pause" => Call::Pause { id: self.number()? },
-            "resume" => Call::Resume { id: self.number()? },
             "take_completed" => Call::TakeCompleted { owner: self.owner()?, places: self.places()? },
             "owners_with_completions" => Call::OwnersWithCompletions { places: self.places()? },
             "next_completion_delay" => Call::NextCompletionDelay,
@@ -279,8 +275,6 @@ impl fmt::Display for Call {
             Call::RunUntil { time } => write!(f, "run_until {}", double(time)),
             Call::Finish => write!(f, "finish"),
             Call::Cancel { id } => write!(f, "cancel {id}"),
-            Call::Pause { id } => write!(f, "pause {id}"),
-            Call::Resume { id } => write!(f, "resume {id}"),
             Call::TakeCompleted { owner, places } => write!(f, "take_completed {} {places}", write_owner(*owner)),
             Call::OwnersWithCompletions { places } => write!(f, "owners_with_completions {places}"),
             Call::NextCompletionDelay => write!(f, "next_completion_delay"),
@@ -320,14 +314,13 @@ mod tests {
     #[test]
     fn a_call_is_read_back_as_written() {
         let lines = ["submit 1 0 7 100 0.25 - 3 2 0 1", "advance 4014000000000001 768", "widen 0 -1", "new", "dump", "run_until 2.5", "finish"];
-        for line in lines.into_iter().chain(["settle", "pause 0", "pause 4294967295", "resume 0", "resume 4294967295", "remaining 4294967295", "bottleneck 0", "bottleneck 4294967295", "new 0.001", "new 0.000000000001", "new 3d719799812dea12", "new -3"]) {
+        for line in lines.into_iter().chain(["settle", "remaining 4294967295", "bottleneck 0", "bottleneck 4294967295", "new 0.001", "new 0.000000000001", "new 3d719799812dea12", "new -3"]) {
             let Line::Call(call) = read_line(line) else { panic!("{line}") };
             assert_eq!(call.to_string(), line);
         }
         assert!(matches!(read_line("  # only a remark"), Line::Blank));
         for line in ["now 1", "run_until", "run_until 1 768", "run_until -", "finish 1", "settle 1", "remaining", "remaining 1 1", "estimate_remaining 1", "new -", "new 1e-3", "new 0.001 1",
-            "new floor", "news", "bottleneck", "bottleneck 1 1", "bottleneck 4294967296", "bottleneck -1", "bottlenecks 1",
-            "pause", "pause 1 1", "pause 4294967296", "pause -1", "paused 1", "resume", "resume 1 1", "resume 4294967296", "resume -1", "resumes 1"] {
+            "new floor", "news", "bottleneck", "bottleneck 1 1", "bottleneck 4294967296", "bottleneck -1", "bottlenecks 1"] {
             assert!(matches!(read_line(line), Line::Malformed), "{line}");
         }
     }

@@ -4,7 +4,7 @@
 //! that holds is the answer. Everything that is computed comes from the copy.
 
 use crate::script::{hex, kind, lines, read_line, worker, write_path, Call, Line};
-use copies::{Bottleneck, Party, Simulator, Submission, Switched, TransferView};
+use copies::{Bottleneck, Party, Simulator, Submission};
 use std::io::{BufRead, Write};
 
 /// The bounds of document 01.
@@ -23,7 +23,7 @@ pub struct Session {
     pub sim: Box<dyn Simulator>,
     completed: [u64; 3],
     cancelled: [u64; 3],
-    /// Leaves slots, rounds and who froze whom out, and the last drain where nobody is in flight but who is paused, for a copy that has none.
+    /// Leaves slots, rounds and who froze whom out, and the last drain where nobody is in flight, for a copy that has none.
     common: bool,
     /// More steps in one `run_until` or `finish` are a panic: a faulty copy may step on for ever.
     pub most_steps: usize,
@@ -113,8 +113,6 @@ impl Session {
             Call::RunUntil { time } => self.run_until(plus_zero(*time)),
             Call::Finish => self.finish(),
             Call::Cancel { id } => self.cancel(*id),
-            Call::Pause { id } => switched(self.sim.pause(*id)),
-            Call::Resume { id } => switched(self.sim.resume(*id)),
             Call::TakeCompleted { owner, places } => self.take_completed(*owner, *places),
             Call::OwnersWithCompletions { places } => {
                 let owners = self.sim.owners_with_completions();
@@ -252,9 +250,9 @@ impl Session {
         }
     }
 
-    /// In the common form none where nobody is in flight, or only who is paused: there the Rust as given can't tell.
+    /// In the common form none where nobody is in flight: there the Rust as given can't tell.
     fn last_drain(&self) -> Option<f64> {
-        self.sim.last_drain().filter(|_| !self.common || self.sim.in_flight() > self.sim.paused().len())
+        self.sim.last_drain().filter(|_| !self.common || self.sim.in_flight() > 0)
     }
 
     fn take_completed(&mut self, owner: Party, places: usize) -> String {
@@ -334,13 +332,10 @@ impl Session {
         if self.common {
             transfers.sort_by_key(|t| t.id);
         }
-        // Of a paused one the last time is that of the last drain, where that can be told.
-        let drained = self.last_drain();
-        let last = |t: &TransferView| if t.paused && drained.is_none() { "-".to_string() } else { hex(t.last) };
-        let line = |t: &TransferView| {
+        let line = |t: &copies::TransferView| {
             let slot = t.slot.filter(|_| !self.common).map_or("-".to_string(), |s| s.to_string());
             format!(
-                "slot {slot} {} {} {} {} {} {} {} {} {} paused {} by {}",
+                "slot {slot} {} {} {} {} {} {} {} {} {} by {}",
                 t.id,
                 kind(t.owner),
                 worker(t.owner),
@@ -348,9 +343,8 @@ impl Session {
                 hex(t.bytes),
                 t.cap.map_or("-".to_string(), hex),
                 hex(t.rate),
-                last(t),
+                hex(t.last),
                 write_path(&t.path),
-                u8::from(t.paused),
                 self.frozen_by(t.by)
             )
         };
@@ -413,15 +407,6 @@ fn numbers(path: &[u32]) -> Vec<usize> {
 
 fn value(value: f64) -> String {
     format!("value {}", hex(value))
-}
-
-fn switched(how: Switched) -> String {
-    let word = match how {
-        Switched::Done => "done",
-        Switched::Unknown => "unknown",
-        Switched::Already => "already",
-    };
-    word.to_string()
 }
 
 fn too_short() -> String {
@@ -631,7 +616,7 @@ mod tests {
     fn the_rust_as_given_cannot_tell_who_froze_a_transfer() {
         assert_eq!(after_two(&["bottleneck 1"]), "-");
         assert_eq!(after_two(&["bottleneck 3"]), "unknown");
-        assert!(after_two(&["bottleneck 3", "dump"]).lines().filter(|line| line.starts_with("slot ")).all(|line| line.ends_with(" 1 0 paused 0 by -")));
+        assert!(after_two(&["bottleneck 3", "dump"]).lines().filter(|line| line.starts_with("slot ")).all(|line| line.ends_with(" 1 0 by -")));
         assert!(after_two(&["bottleneck 3", "dump"]).contains(" stale 0 "));
     }
 

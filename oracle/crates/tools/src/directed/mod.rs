@@ -6,7 +6,6 @@ mod fillings;
 mod floors;
 mod limits;
 mod orders;
-mod pauses;
 mod refusals;
 mod steps;
 mod time_left;
@@ -35,7 +34,6 @@ pub fn scripts() -> Vec<(&'static str, Vec<String>)> {
         ("watching", watching::watching()),
         ("floors", floors::floors()),
         ("bottlenecks", bottlenecks::bottlenecks()),
-        ("pauses", pauses::pauses()),
         ("steps", steps::steps()),
         ("equal-caps", orders::equal_caps()),
         ("many-caps", orders::many_caps()),

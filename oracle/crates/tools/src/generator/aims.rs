@@ -1,8 +1,7 @@
 //! A few lines each, aimed at places that random numbers do not meet: bytes left, time left and latency left at their
-//! tolerances, transfers that stall, questions that only read, who froze a transfer, who is paused, the calls that drain before they change something, ties and clamps.
+//! tolerances, transfers that stall, questions that only read, who froze a transfer, the calls that drain before they change something, ties and clamps.
 
 mod bottlenecks;
-mod pauses;
 
 use super::*;
 use crate::tolerances::{eps_over, neighbours, whole_over_double, B};
@@ -30,14 +29,9 @@ impl Generator {
             Profile::Crowd => &[Self::at_many_caps],
             _ => &[],
         };
-        let paused: &[Aim] = &[Self::at_menu, Self::at_pending_pause, Self::at_pause_without_bytes, Self::at_shared_edge, Self::at_quiet_pause, Self::at_quiet_pause, Self::at_kept_slot];
         // Whether somebody is done early is best asked where the floor is coarse.
         let early = self.session.sim.floor() >= 1e-6 && self.random.chance(30);
-        let aim = match self.random.below(10) {
-            _ if early => Self::at_early_end,
-            0 | 1 => *self.random.pick(paused),
-            _ => *self.random.pick(&[common, frozen, own].concat()),
-        };
+        let aim = if early { Self::at_early_end } else { *self.random.pick(&[common, frozen, own].concat()) };
         if aim(self).is_none() {
             self.emit(Call::Now.to_string());
         }
@@ -449,7 +443,7 @@ mod tests {
     #[test]
     fn bytes_left_are_met() {
         for place in [|t: &TransferView, _| t.bytes == B, |t: &TransferView, _| t.bytes == B.next_up()] {
-            assert_eq!(met(10_000, place), ALL[1..]);
+            assert_eq!(met(6000, place), ALL[1..]);
         }
     }
 
@@ -467,12 +461,12 @@ mod tests {
 
     #[test]
     fn coarse_floors_are_met() {
-        assert_eq!(met_coarse(40_000, |t, eps| t.rate > 0.0 && t.bytes / t.rate == eps), ALL[1..]);
-        assert_eq!(met_coarse(40_000, |t, eps| t.rate > 0.0 && t.bytes / t.rate == eps.next_up()), ALL[1..]);
-        assert_eq!(met_coarse(40_000, |t, eps| t.latency == eps), ALL[1..]);
-        assert_eq!(met_coarse(40_000, |t, eps| t.latency == eps.next_up()), ALL[1..]);
+        assert_eq!(met_coarse(20_000, |t, eps| t.rate > 0.0 && t.bytes / t.rate == eps), ALL[1..]);
+        assert_eq!(met_coarse(20_000, |t, eps| t.rate > 0.0 && t.bytes / t.rate == eps.next_up()), ALL[1..]);
+        assert_eq!(met_coarse(20_000, |t, eps| t.latency == eps), ALL[1..]);
+        assert_eq!(met_coarse(20_000, |t, eps| t.latency == eps.next_up()), ALL[1..]);
         // Done by the floor alone, with bytes that count and no latency left.
-        assert_eq!(met_coarse(40_000, |t, eps| t.bytes > 1.0 && t.latency == 0.0 && t.bytes / t.rate < eps), ALL[1..]);
+        assert_eq!(met_coarse(20_000, |t, eps| t.bytes > 1.0 && t.latency == 0.0 && t.bytes / t.rate < eps), ALL[1..]);
     }
 
     /// The floors of a profile's script of so many lines, taken and refused.

@@ -143,7 +143,7 @@ mod tests {
 
     #[test]
     fn without_bytes_and_frozen_by_an_edge_is_met() {
-        assert_eq!(asked(20_000, |t, _| t.bytes <= B && is_edge(t)), ALL);
+        assert_eq!(asked(10_000, |t, _| t.bytes <= B && is_edge(t)), ALL);
     }
 
     #[test]

@@ -1,4 +1,0 @@
-pub mod OneMarked
-pub mod Told
-pub mod Undone
-pub mod Absent
