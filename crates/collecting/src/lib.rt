@@ -1,4 +1,5 @@
 // Collecting: an owner takes what waits for it out of the queue, into a lent buffer.
+#![tactic(auto)]
 ghost use Rattle.std.specs.Prelude.{◌≡◌, not, map, ◌≤◌, take};
 ghost use Rattle.rules.specs.Lists.{count, those, write_front};
 ghost use Rattle.rules.specs.Queue.{belongs, take_completed};

@@ -1,4 +1,5 @@
 // How often each edge is crossed, and what that adds to the load integrals.
+#![tactic(auto)]
 ghost use Rattle.std.specs.Prelude.{◌≡◌, map, ◌≤◌, get_or, length};
 ghost use Rattle.rules.specs.Lists.{Each, map_from, sum};
 ghost use Rattle.rules.specs.Records.{free, own_path};
@@ -10,7 +11,7 @@ ghost use Rattle.crossings.specs.Loads.{counts, counted, loads_by, loads};
 use rules::{Edge, Transfer};
 
 // Whose crossings are counted in a load: everybody's in flight, or theirs alone who take part in a filling.
-#[derive(Drop)]
+#[derive(Clone, Copy)]
 pub enum Counted {
     InFlight,
     TakingPart,

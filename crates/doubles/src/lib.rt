@@ -1,4 +1,6 @@
 // Helpers on doubles that every layer above uses. Each contract decides the answer on every double, NaN and the infinities included.
+#![tactic(auto)]
+
 ghost use Rattle.std.specs.Prelude.{◌≡◌};
 ghost use Rattle.doubles.specs.Doubles.{is_finite, read_zero, bits_of, of_bits};
 ghost use Rattle.doubles.specs.Doubles.{larger as the_larger, smaller as the_smaller, whole as the_whole};

@@ -1,1 +1,2 @@
 // Laws only: what every filling does. They stand in proofs/.
+#![tactic(auto)]

@@ -1,4 +1,5 @@
 // The simulator for its users: every type and every call in one place. What each does is in crates/rules/specs.
+#![tactic(auto)]
 
 // ---- types
 pub use rules::{

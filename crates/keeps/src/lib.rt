@@ -1,1 +1,2 @@
 // Laws only: what every call keeps. They stand in proofs/.
+#![tactic(auto)]

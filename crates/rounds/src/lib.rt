@@ -1,4 +1,5 @@
 // One round of a filling: what it decides, and whom that freezes.
+#![tactic(auto)]
 ghost use Rattle.std.specs.Prelude.{◌≡◌, cond, ℕ, ◌-◌, ◌≤◌, ◌<◌, ltb, length, get_or};
 ghost use Rattle.rules.specs.Lists.{at_each_crossing};
 ghost use Rattle.rules.specs.Records.{own_path};
@@ -13,14 +14,14 @@ use caps::CapOrder;
 use rules::{Best, Limit, Seat, Share, Verdict};
 
 // What a round decides, and how far it used the order of caps up.
-#[derive(Drop)]
+#[derive(Clone, Copy)]
 pub struct Decision {
     pub verdict: Verdict,
     pub cursor: usize,
 }
 
 // A filling under way.
-#[derive(Drop)]
+#[derive(Clone, Copy)]
 pub struct Scratch {
     pub seats: [Seat; 256],
     // What is left of each edge's capacity, and its crossings by the unfrozen.

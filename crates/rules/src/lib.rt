@@ -1,4 +1,5 @@
 // The types of the simulator, its tolerance, and the fresh state. What is right of them stands in specs/.
+#![tactic(auto)]
 ghost use Rattle.std.specs.Prelude.{◌≡◌};
 ghost use Rattle.rules.specs.Tolerance.{eps, default_tolerance};
 ghost use Rattle.rules.specs.Records.{free, fresh};
@@ -7,7 +8,7 @@ ghost use Rattle.rules.specs.Floors.{with_floor};
 ghost use Rattle.rules.specs.Invariant.{Invariant};
 
 // Who a transfer belongs to, and so which queue its completion waits in.
-#[derive(Drop)]
+#[derive(Clone, Copy)]
 pub enum Owner {
     Worker(u32),
     Handoff,
@@ -15,14 +16,14 @@ pub enum Owner {
 }
 
 // The private limit on a transfer's rate, in bytes a second, if it has one.
-#[derive(Drop)]
+#[derive(Clone, Copy)]
 pub enum Cap {
     AtMost(f64),
     Uncapped,
 }
 
 // What kept a transfer from a higher rate at the last filling: the edge or the cap whose round froze it, or nothing if it had no part in the rounds.
-#[derive(Drop)]
+#[derive(Clone, Copy)]
 pub enum Limit {
     AtEdge(usize),
     AtCap,
@@ -30,21 +31,21 @@ pub enum Limit {
 }
 
 // How long until something happens, in seconds.
-#[derive(Drop)]
+#[derive(Clone, Copy)]
 pub enum Delay {
     After(f64),
     Never,
 }
 
 // When the next transfer is done under the rates of the last filling.
-#[derive(Drop)]
+#[derive(Clone, Copy)]
 pub enum NextDone {
     At(f64),
     Nobody,
 }
 
 // A drive or a bus.
-#[derive(Drop)]
+#[derive(Clone, Copy)]
 pub struct Edge {
     // Bytes a second.
     pub capacity: f64,
@@ -55,14 +56,14 @@ pub struct Edge {
 }
 
 // The edges that a transfer crosses, in order: the first `len` of the places, and zeros behind them.
-#[derive(Drop)]
+#[derive(Clone, Copy)]
 pub struct Route {
     pub hops: [usize; 8],
     pub len: usize,
 }
 
 // A slot of the table: a transfer in flight where `taken`, and otherwise the blank.
-#[derive(Drop)]
+#[derive(Clone, Copy)]
 pub struct Transfer {
     pub taken: bool,
     pub id: u32,
@@ -81,14 +82,14 @@ pub struct Transfer {
 }
 
 // A transfer that is done and waits to be collected.
-#[derive(Drop)]
+#[derive(Clone, Copy)]
 pub struct Completion {
     pub owner: Owner,
     pub id: u32,
 }
 
 // What has been counted of one kind of owner.
-#[derive(Drop)]
+#[derive(Clone, Copy)]
 pub struct Tally {
     pub submitted: u64,
     pub completed: u64,
@@ -97,7 +98,7 @@ pub struct Tally {
 }
 
 // What has been counted in all, and the most that were ever in flight at once.
-#[derive(Drop)]
+#[derive(Clone, Copy)]
 pub struct Totals {
     pub peak_in_flight: usize,
     pub worker: Tally,
@@ -106,7 +107,7 @@ pub struct Totals {
 }
 
 // The crossings of each edge by all transfers in flight, as of the last filling, and how many edges there were then.
-#[derive(Drop)]
+#[derive(Clone, Copy)]
 pub struct EdgeLoad {
     pub load: [usize; 64],
     // Nothing is decided by it: while rates are not stale it is the number of edges, as `AlwaysMatched` (specs/Promises) says, and that statement is what it stays for.
@@ -114,7 +115,7 @@ pub struct EdgeLoad {
 }
 
 // The time, when transfers were last drained, and what the last filling left: whether it is out of date, when the next transfer is done, how many rounds it took.
-#[derive(Drop)]
+#[derive(Clone, Copy)]
 pub struct Clock {
     pub now: f64,
     // Before `now` where time has passed since by quiet advances alone.
@@ -125,13 +126,13 @@ pub struct Clock {
 }
 
 // What counts as done: the floor of the time within which a remainder is nothing.
-#[derive(Drop)]
+#[derive(Clone, Copy)]
 pub struct Tolerance {
     pub floor: f64,
 }
 
 // The simulator.
-#[derive(Drop)]
+#[derive(Clone, Copy)]
 pub struct Flows {
     pub edges: [Edge; 64],
     pub num_edges: usize,
@@ -145,7 +146,7 @@ pub struct Flows {
 }
 
 // What a call says. Each call's definition tells which of these it can say.
-#[derive(Drop)]
+#[derive(Clone, Copy)]
 pub enum Answer {
     // The work is done.
     Done,
@@ -170,28 +171,28 @@ pub enum Answer {
 }
 
 // The simulator after a call, and what the call said.
-#[derive(Drop)]
+#[derive(Clone, Copy)]
 pub struct Outcome {
     pub answer: Answer,
     pub flows: Flows,
 }
 
 // An edge as it was asked for, or the number of the refusal.
-#[derive(Drop)]
+#[derive(Clone, Copy)]
 pub enum EdgeRead {
     Found(Edge),
     Refused(u32),
 }
 
 // The time left of a transfer as things stand, and whether that is behind: not drained to the clock, or told by stale rates.
-#[derive(Drop)]
+#[derive(Clone, Copy)]
 pub struct TimeLeft {
     pub answer: Answer,
     pub behind: bool,
 }
 
 // A submission as data. Its path is lent beside it.
-#[derive(Drop)]
+#[derive(Clone, Copy)]
 pub struct Submission {
     pub id: u32,
     pub owner: Owner,
@@ -202,7 +203,7 @@ pub struct Submission {
 }
 
 // An estimate as data. Its path is lent beside it.
-#[derive(Drop)]
+#[derive(Clone, Copy)]
 pub struct Estimate {
     pub bytes: f64,
     pub latency: f64,
@@ -210,7 +211,7 @@ pub struct Estimate {
 }
 
 // A call or a question as data, with its arguments; a path and a buffer are lent beside it.
-#[derive(Drop)]
+#[derive(Clone, Copy)]
 pub enum Call {
     Advance(f64),
     Submit(Submission),
@@ -232,7 +233,7 @@ pub enum Call {
 }
 
 // What a call or a question gives back, in whichever form it does.
-#[derive(Drop)]
+#[derive(Clone, Copy)]
 pub enum Said {
     Answered(Answer),
     Edge(EdgeRead),
@@ -242,35 +243,35 @@ pub enum Said {
 }
 
 // What was said, and the simulator then.
-#[derive(Drop)]
+#[derive(Clone, Copy)]
 pub struct Made {
     pub said: Said,
     pub flows: Flows,
 }
 
 // A slot during a filling: the transfer with its rate so far, and whether a round has yet to freeze it.
-#[derive(Drop)]
+#[derive(Clone, Copy)]
 pub struct Seat {
     pub transfer: Transfer,
     pub unfrozen: bool,
 }
 
 // The smallest of some caps: whose slot it is, and the cap. Not everybody has one.
-#[derive(Drop)]
+#[derive(Clone, Copy)]
 pub enum Best {
     At(usize, f64),
     Nobody,
 }
 
 // An edge with load, and what each crossing of it would get.
-#[derive(Drop)]
+#[derive(Clone, Copy)]
 pub struct Share {
     pub edge: usize,
     pub share: f64,
 }
 
 // What a round decides: one slot is frozen at its cap, or all that cross an edge at its share.
-#[derive(Drop)]
+#[derive(Clone, Copy)]
 pub enum Verdict {
     ByCap(usize, f64),
     ByEdge(usize, f64),

@@ -1,4 +1,5 @@
 // Reads a script of calls, from the file that its argument names or from standard input, makes each on the simulator and prints the answers.
+#![tactic(auto)]
 ghost use Rattle.std.specs.Prelude.{◌≤◌, ◌≡◌, cond, length};
 ghost use Rattle.rules.specs.Refusals.{not_a_floor};
 ghost use Rattle.rules.specs.Floors.{with_floor};
@@ -13,14 +14,14 @@ use session_pages::put_text;
 use session_words::Line;
 
 // The simulator, and where the next answer goes on the page.
-#[derive(Drop)]
+#[derive(Clone, Copy)]
 struct Next {
     flows: Flows,
     at: usize,
 }
 
 // What is kept between two reads: the simulator, the line so far, whether anything was read yet, and whether there is more to read.
-#[derive(Drop)]
+#[derive(Clone, Copy)]
 struct Between {
     flows: Flows,
     line: Line,

@@ -1,4 +1,5 @@
 // A line of the script as a request. Whatever the format does not allow is malformed.
+#![tactic(auto)]
 ghost use Rattle.std.specs.Prelude.{◌≤◌, length};
 ghost use Rattle.session_asked.specs.Request.{Within};
 
@@ -6,7 +7,7 @@ use rules::{Call, Cap, Estimate, Owner, Submission};
 use session_numbers::{Long, RealWord, Short};
 
 // What a line asks for: a call of the simulator, or what the program makes of several, or of none.
-#[derive(Drop)]
+#[derive(Clone, Copy)]
 pub enum Ask {
     Malformed,
     // A fresh simulator, with the default floor or with that one.
@@ -20,7 +21,7 @@ pub enum Ask {
 }
 
 // What is told of the state as it stands.
-#[derive(Drop)]
+#[derive(Clone, Copy)]
 pub enum Look {
     Now,
     Counts,
@@ -28,7 +29,7 @@ pub enum Look {
 }
 
 // What is asked, with the length of its path and of its lent buffer, 0 where it has none.
-#[derive(Drop)]
+#[derive(Clone, Copy)]
 pub struct Request {
     pub ask: Ask,
     pub hops: usize,
@@ -36,26 +37,26 @@ pub struct Request {
 }
 
 // A number that ends its line.
-#[derive(Drop)]
+#[derive(Clone, Copy)]
 enum Last {
     Only(u32),
     NoLast,
 }
 
-#[derive(Drop)]
+#[derive(Clone, Copy)]
 enum OwnerWord {
     OwnerTo(Owner, usize),
     NoOwner,
 }
 
-#[derive(Drop)]
+#[derive(Clone, Copy)]
 enum CapWord {
     CapTo(Cap, usize),
     NoCap,
 }
 
 // Where the numbers of a path end. They are put into a table of their own.
-#[derive(Drop)]
+#[derive(Clone, Copy)]
 enum PathWords {
     PathTo(usize),
     NoPath,

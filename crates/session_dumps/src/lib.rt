@@ -1,4 +1,5 @@
 // The whole state as text. Nothing is filled or drained for it.
+#![tactic(auto)]
 ghost use Rattle.std.specs.Prelude.{◌+◌, ◌≤◌};
 ghost use Rattle.rules.specs.Invariant.{Invariant};
 

@@ -1,4 +1,5 @@
 // The fields that answers and dumps are made of, most with a blank in front, and the page that they gather on.
+#![tactic(auto)]
 mod page;
 
 ghost use Rattle.std.specs.Prelude.{◌+◌, ◌≤◌, length};

@@ -1,4 +1,5 @@
 // The numbers that a script's words spell, whole ones and doubles. Nothing here knows what is simulated.
+#![tactic(auto)]
 ghost use Rattle.std.specs.Prelude.{◌≡◌, ◌^◌, ◌<◌, ◌≤◌};
 ghost use mathlib.Core.List.{foldl};
 ghost use Rattle.session_numbers.specs.Numbers.{more, number_of};
@@ -8,35 +9,35 @@ ghost use Rattle.session_numbers.specs.Reals.{fraction as the_fraction};
 ghost use Rattle.session_numbers.specs.Next.{long_in, short_in, real_in};
 
 // What digits spell.
-#[derive(Drop)]
+#[derive(Clone, Copy)]
 pub enum Number {
     Whole(u64),
     NoNumber,
 }
 
 // What a word spells where a double is wanted.
-#[derive(Drop)]
+#[derive(Clone, Copy)]
 pub enum Double {
     Real(f64),
     NoDouble,
 }
 
 // The next word of a line as a number below 2^64, and where the word ends.
-#[derive(Drop)]
+#[derive(Clone, Copy)]
 pub enum Long {
     LongTo(u64, usize),
     NoLong,
 }
 
 // The next word of a line as a number below 2^32, and where the word ends.
-#[derive(Drop)]
+#[derive(Clone, Copy)]
 pub enum Short {
     ShortTo(u32, usize),
     NoShort,
 }
 
 // The next word of a line as a double, and where the word ends.
-#[derive(Drop)]
+#[derive(Clone, Copy)]
 pub enum RealWord {
     RealTo(f64, usize),
     NoReal,

@@ -1,4 +1,5 @@
 // The words of a script that go from completion to completion: each step asks for the delay and advances by it, so that whoever is done gives up its share at once.
+#![tactic(auto)]
 ghost use Rattle.std.specs.Prelude.{◌≤◌, length};
 ghost use Rattle.rules.specs.Invariant.{Invariant};
 
@@ -8,14 +9,14 @@ use session_pages::{put_double, put_text};
 use session_told::{entries, remark};
 
 // The simulator, and where the next answer goes on the page.
-#[derive(Drop)]
+#[derive(Clone, Copy)]
 pub struct Walked {
     pub flows: Flows,
     pub at: usize,
 }
 
 // A walk under way: whether the last step listed nobody, and whether there is another.
-#[derive(Drop)]
+#[derive(Clone, Copy)]
 struct Walk {
     flows: Flows,
     at: usize,

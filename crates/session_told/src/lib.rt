@@ -1,4 +1,5 @@
 // Answers as text, one line each: a double by its bits, with a remark in decimal for people where one can be made.
+#![tactic(auto)]
 ghost use Rattle.std.specs.Prelude.{◌+◌, ◌*◌, ◌≤◌, ◌≡◌, length};
 ghost use Rattle.rules.specs.Invariant.{Invariant};
 ghost use Rattle.flows.specs.Fits.{width_of, Fits, FitsSaid};

@@ -1,4 +1,5 @@
 // The words of a script's line, and the line while its bytes come in.
+#![tactic(auto)]
 mod line;
 
 ghost use Rattle.std.specs.Prelude.{◌+◌, ◌≤◌, min, ◌≡◌, length, drop};
@@ -8,7 +9,7 @@ ghost use Rattle.session_words.specs.Words.{is_blank as blank, stops as the_end,
 pub use line::Line;
 
 // A word of a line: its bytes stand from `start` up to, not including, `end`. There are none where the line has no word left.
-#[derive(Drop)]
+#[derive(Clone, Copy)]
 pub struct Word {
     pub start: usize,
     pub end: usize,

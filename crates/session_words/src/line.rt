@@ -4,7 +4,7 @@ ghost use Rattle.std.specs.Prelude.{◌≤◌, ◌≡◌};
 use crate::is_blank;
 
 // How much of the buffer is the line's, whether the rest of it is a remark, and whether it had more bytes than the buffer.
-#[derive(Drop)]
+#[derive(Clone, Copy)]
 pub struct Line {
     pub len: usize,
     pub remark: bool,

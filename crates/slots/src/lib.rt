@@ -1,4 +1,5 @@
 // The table of transfers: who is where, how many there are, and the lowest free slot.
+#![tactic(auto)]
 ghost use Rattle.std.specs.Prelude.{◌≤◌, ◌<◌, ◌≡◌};
 ghost use Rattle.rules.specs.Lists.{count};
 ghost use Rattle.rules.specs.Records.{free, has_id, of_id};
@@ -7,7 +8,7 @@ ghost use Rattle.slots.specs.Lookup.{lookup, first_free};
 use rules::Transfer;
 
 // Where a transfer was found.
-#[derive(Drop)]
+#[derive(Clone, Copy)]
 pub enum Lookup {
     Slot(usize),
     Nowhere,

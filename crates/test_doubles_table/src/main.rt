@@ -1,5 +1,6 @@
 // Runs the helpers of `doubles` on a table of bit patterns and prints what they answer, to be held against the answers of Rust.
 // A line of the table has nineteen bytes: a letter, a space, sixteen hexadecimal digits and the line's end.
+#![tactic(auto)]
 ghost use Rattle.std.specs.Prelude.{◌+◌, ◌≤◌, ◌<◌, length};
 
 fn main() {

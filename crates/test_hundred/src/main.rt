@@ -1,12 +1,13 @@
 // A hundred calls of each kind on one simulator; of each kind it says how many did their work, found nothing or were refused, and what the last one
 // answered. tools/stack runs it in 1 MB of stack. What it has to print is what the patched copy of the Rust answers to the same calls.
+#![tactic(auto)]
 ghost use Rattle.std.specs.Prelude.{◌<◌};
 ghost use Rattle.rules.specs.Invariant.{Invariant};
 
 use flows::{Answer, Cap, Delay, EdgeRead, Flows, Limit, Outcome, Owner};
 
 // The calls, in the order in which they are made.
-#[derive(Drop)]
+#[derive(Clone, Copy)]
 enum Kind {
     AddEdge,
     Widen,
@@ -40,7 +41,7 @@ enum Kind {
 }
 
 // How many calls of a kind did their work, found nothing to do it on, or were refused.
-#[derive(Drop)]
+#[derive(Clone, Copy)]
 struct Counts {
     done: u64,
     nothing: u64,

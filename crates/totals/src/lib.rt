@@ -1,4 +1,5 @@
 // What can be read off a simulator as it stands: nothing is brought up to date, and nothing changes.
+#![tactic(auto)]
 ghost use Rattle.std.specs.Prelude.{◌≡◌};
 ghost use Rattle.rules.specs.Records.{contains, num_in_flight};
 
@@ -6,7 +7,7 @@ use rules::{Flows, Totals};
 use slots::Lookup;
 
 // A number for each kind of owner.
-#[derive(Drop)]
+#[derive(Clone, Copy)]
 pub struct Counts {
     pub worker: u64,
     pub handoff: u64,
@@ -14,7 +15,7 @@ pub struct Counts {
 }
 
 // Bytes for each kind of owner.
-#[derive(Drop)]
+#[derive(Clone, Copy)]
 pub struct Bytes {
     pub worker: f64,
     pub handoff: f64,

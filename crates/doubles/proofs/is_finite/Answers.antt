@@ -2,8 +2,7 @@
 use Rattle.std.proofs.Common.{◌≡◌, true, false, sym, refl}
 use lib.Ieee.{Float, nan, inf, fin, lt, div, neg, of_bits}
 use Rattle.doubles.specs.Doubles.{is_finite}
-use Rattle.doubles.proofs.is_finite.Statement.{statement}
-use Rattle.doubles.proofs.is_finite.Tie as tie
+use Rattle.doubles.proofs.is_finite.Goals as goal
 
 below_top : (x : Float) → lt x (inf false) ≡ true → lt (inf true) x ≡ is_finite x
 unfolding lt is_finite
@@ -18,13 +17,10 @@ not_below_top nan h = refl
 not_below_top (inf s) h = refl
 not_below_top (fin s m e) h = sym h
 
-returns : tie.Need-returns
+pub returns-then-x-top : goal.returns-then-x-top
 unfolding div neg of_bits
-returns c = below_top c.before.args.x c.if1.true
+returns-then-x-top c = below_top c.args.x c.if-x-top.true
 
-returns_2 : tie.Need-returns-2
+pub returns-else-x-top : goal.returns-else-x-top
 unfolding div of_bits
-returns_2 c = not_below_top c.before.args.x c.if1.false
-
-pub is_finite_spec : {M : Type 1} → statement M
-is_finite_spec = tie.close (tie.spec returns returns_2)
+returns-else-x-top c = not_below_top c.args.x c.if-x-top.false
