@@ -1,5 +1,6 @@
 // The types of the simulator, its tolerance, and the fresh state. What is right of them stands in specs/.
 #![tactic(auto)]
+
 ghost use Rattle.std.specs.Prelude.{◌≡◌};
 ghost use Rattle.rules.specs.Tolerance.{eps, default_tolerance};
 ghost use Rattle.rules.specs.Records.{free, fresh};

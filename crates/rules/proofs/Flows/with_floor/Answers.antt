@@ -9,26 +9,16 @@ use Rattle.rules.specs.Refusals.{refusing}
 use Rattle.rules.specs.Floors.{with_floor}
 use Rattle.rules.specs.Invariant.{Invariant}
 use Rattle.rules.proofs.Fresh.{with_floor_keeps}
-use Rattle.rules.proofs.Flows.with_floor.Statement.{statement}
-use Rattle.rules.proofs.Flows.with_floor.Tie as tie
-
-new_requires : tie.Need-new-requires
-new_requires c κs = search rules
-
-not_a_floor_requires : tie.Need-not-a-floor-requires
-not_a_floor_requires c κs = search rules
+use Rattle.rules.proofs.Flows.with_floor.Goals as goal
 
 -- an outcome that the definition gives keeps the invariant as it does
 kept : (floor : Float) {r : Outcome} → T (fits binary64 floor) → r ≡ with_floor floor → (r ≡ with_floor floor) × Invariant r.flows
 kept floor held same = (same, rw same (with_floor_keeps floor held))
 
-returns : tie.Need-returns
+pub returns-then-not_a_floor : goal.returns-then-not_a_floor
 unfolding with_floor refusing
-returns c = kept c.before.before.before.args.floor (search rules) (rw (sym c.before.not_a_floor.ensures ∙ c.if1.true, c.before.before.new.ensures.0))
+returns-then-not_a_floor c = let both = kept c.args.floor (search rules) (rw (sym c.not_a_floor.ensures ∙ c.if-not_a_floor.true, c.new-flows.ensures.exactly)) in record { exactly = both.0; sound = both.1 }
 
-returns_2 : tie.Need-returns-2
+pub returns : goal.returns
 unfolding with_floor refusing with_tolerance
-returns_2 c = kept c.before.before.before.before.args.floor (search rules) (rw (sym c.before.before.not_a_floor.ensures ∙ c.before.if1.false, c.before.before.before.new.ensures.0))
-
-pub with_floor_spec : {M : Type 1} → statement M
-with_floor_spec = tie.close (tie.spec new_requires not_a_floor_requires returns returns_2)
+returns c = let both = kept c.args.floor (search rules) (rw (sym c.not_a_floor.ensures ∙ c.if-not_a_floor.false, c.new-flows.ensures.exactly)) in record { exactly = both.0; sound = both.1 }
