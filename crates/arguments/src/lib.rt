@@ -1,5 +1,6 @@
 // Numbers, caps and paths as a caller hands them over: whether they can be taken, how they are read, and the refusal where not.
 #![tactic(auto)]
+
 ghost use Rattle.std.specs.Prelude.{◌≤◌, ◌≡◌, leb, length};
 ghost use Rattle.rules.specs.Lists.{any};
 ghost use Rattle.rules.specs.Records.{route};

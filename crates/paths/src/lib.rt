@@ -1,5 +1,6 @@
 // Loops over a path, which is lent as the numbers of its edges in order.
 #![tactic(auto)]
+
 ghost use Rattle.std.specs.Prelude.{◌+◌, ◌-◌, ◌≡◌, length, eqb};
 ghost use Rattle.doubles.specs.Doubles.{◌⊕◌};
 ghost use Rattle.rules.specs.Lists.{any, at_each_crossing};

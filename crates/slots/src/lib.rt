@@ -1,5 +1,6 @@
 // The table of transfers: who is where, how many there are, and the lowest free slot.
 #![tactic(auto)]
+
 ghost use Rattle.std.specs.Prelude.{◌≤◌, ◌<◌, ◌≡◌};
 ghost use Rattle.rules.specs.Lists.{count};
 ghost use Rattle.rules.specs.Records.{free, has_id, of_id};

@@ -1,5 +1,6 @@
 // What is counted of each kind of owner.
 #![tactic(auto)]
+
 ghost use Rattle.std.specs.Prelude.{◌<◌, ◌^◌, ◌+◌, ◌≡◌};
 ghost use Rattle.rules.specs.Records.{tally_of, on_tally};
 ghost use Rattle.rules.specs.Submission.{count_submitted};

@@ -1,0 +1,15 @@
+-- `cancelled` counts on what it read of the kind. Assumes nothing.
+use native.Mathlib.Omega.{arith}
+use borrow.Author.Rules.{rules}
+use Rattle.rules.specs.Cancel.{count_cancelled}
+use Rattle.tallies.proofs.Known.{changed_tally}
+use Rattle.tallies.proofs.cancelled.Goals as goal
+
+pub overflow_add-tally : goal.overflow_add-tally
+overflow_add-tally c = rw c.tally_of-tally.ensures (omega (arith, c.requires))
+
+pub returns : goal.returns
+unfolding count_cancelled
+returns c =
+    let args = c.args in
+    rw (c.with_tally.ensures, c.tally_of-tally.ensures) (changed_tally args.owner count_cancelled args.flows)
