@@ -1,12 +1,8 @@
 -- `find` looks from slot 0 up: no slot before i has the id, so the rest decides. Assumes nothing.
-use native.Mathlib.Omega.{arith}
-use borrow.Author.Rules.{rules}
 use Prim.Native.Nat.{◌-◌, ◌≤◌}
-use lib.ListN.{drop, drop_of_length-le}
-use mathlib.Core.Path.{◌≡◌, refl, sym, ◌∙◌, ap}
-use mathlib.Core.Bool.{true, false}
-use Rattle.slots.specs.Lookup.{lookup, lookup_from}
-use Rattle.slots.proofs.Lookups.{lookup_one}
+use lib.ListN.{drop}
+use mathlib.Core.Path.{◌≡◌}
+use Rattle.slots.specs.Lookup.{lookup_from}
 use Rattle.slots.proofs.find.Given as goal
 
 abbrev pub invariant-loop-i : goal.invariant-loop-i

@@ -2,14 +2,10 @@
 use native.Mathlib.Omega.{arith}
 use mathlib.Core.Bool.{true, false}
 use mathlib.Core.List.{List}
-use Prim.Native.Nat.{ℕ, ◌+◌, ◌-◌, ◌≤◌}
+use Prim.Native.Nat.{ℕ}
 use Rattle.rules.specs.declared.Transfer.{Transfer}
 use Rattle.rules.proofs.Steps.{count_by}
 use Rattle.slots.proofs.Lookups.{first_free_one}
-use lib.ListN.{drop}
-use mathlib.Core.Path.{◌≡◌}
-use Rattle.rules.specs.Lists.{count}
-use Rattle.slots.specs.Lookup.{first_free}
 use Rattle.slots.proofs.free_slot.Goals as goal
 
 pub loop-i-init : goal.loop-i-init
@@ -29,11 +25,11 @@ loop-i-smaller c = omega arith
 
 pub loop-i-preserved : goal.loop-i-preserved
 loop-i-preserved c =
-    let slots : List Transfer = c.args.t1 in
+    let slots : List Transfer = c.args.in_flight in
     let i : ℕ = c.loop-i.i in
-    omega (arith, count_by (λ t. t.taken) slots i _ true c.if1.true (omega arith), first_free_one slots i _ (omega arith) true c.if1.true)
+    omega (arith, count_by (λ t. t.taken) slots i _ true c.loop-i-test.true (omega arith), first_free_one slots i _ (omega arith) true c.loop-i-test.true)
 
 pub returns : goal.returns
 returns c =
-    let slots : List Transfer = c.args.t1 in
-    let i : ℕ = c.loop-i.i in record { lowest = omega (arith, first_free_one slots i _ (omega arith) false c.if1.false); bounded = omega arith }
+    let slots : List Transfer = c.args.in_flight in
+    let i : ℕ = c.loop-i.i in record { lowest = omega (arith, first_free_one slots i _ (omega arith) false c.loop-i-test.false); bounded = omega arith }

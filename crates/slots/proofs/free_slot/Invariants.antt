@@ -1,11 +1,5 @@
 -- `free_slot` passes over taken slots; not all are taken, so it stays inside the table. Assumes nothing.
-use native.Mathlib.Omega.{arith}
-use mathlib.Core.Bool.{true, false}
-use mathlib.Core.List.{List}
-use Prim.Native.Nat.{ℕ, ◌+◌, ◌-◌, ◌≤◌}
-use Rattle.rules.specs.declared.Transfer.{Transfer}
-use Rattle.rules.proofs.Steps.{count_by}
-use Rattle.slots.proofs.Lookups.{first_free_one}
+use Prim.Native.Nat.{◌+◌, ◌-◌, ◌≤◌}
 use lib.ListN.{drop}
 use mathlib.Core.Path.{◌≡◌}
 use Rattle.rules.specs.Lists.{count}

@@ -1,13 +1,13 @@
 -- `num_taken` counts: what is counted and what the rest holds make up the whole. Assumes nothing.
 use native.Mathlib.Omega.{arith}
-use Prim.Native.Nat.{ℕ, ◌+◌, ◌-◌, ◌≤◌}
-use lib.ListN.{drop, drop_of_length-le}
+use Prim.Native.Nat.{ℕ}
+use lib.ListN.{drop_of_length-le}
 use mathlib.Core.List.{List}
-use mathlib.Core.Logic.{⊎_elim}
-use mathlib.Core.Path.{◌≡◌, ap}
+use mathlib.Core.Path.{ap}
 use Rattle.rules.proofs.Steps.{count_by}
 use Rattle.rules.specs.Lists.{count}
 use Rattle.rules.specs.declared.Transfer.{Transfer}
+use Rattle.slots.proofs.num_taken.Goals.{then-t, else-t}
 use Rattle.slots.proofs.num_taken.Goals as goal
 
 pub loop-i-init : goal.loop-i-init
@@ -30,14 +30,14 @@ loop-i-smaller c = omega arith
 
 pub loop-i-preserved : goal.loop-i-preserved
 loop-i-preserved c =
-    let slots : List Transfer = c.args.t1 in
+    let slots : List Transfer = c.args.in_flight in
     let i : ℕ = c.loop-i.i in
-    ⊎_elim
-    (λ w. omega (arith, count_by (λ t. t.taken) slots i _ _ w.0.taken (omega arith)))
-    (λ w. omega (arith, count_by (λ t. t.taken) slots i _ _ w.0.left (omega arith)))
-    c.if-t.branch
+    elim c.if-t.branch [
+      then-t w ↦ omega (arith, count_by (λ t. t.taken) slots i _ _ w.if-t.true (omega arith))
+    | else-t w ↦ omega (arith, count_by (λ t. t.taken) slots i _ _ w.if-t.false (omega arith))
+    ]
 
 pub returns : goal.returns
 unfolding count
 returns c =
-    let end = drop_of_length-le c.args.t1 {i = c.loop-i.i} (omega arith) in record { exactly = omega (arith, ap (count (λ t. t.taken)) end); bounded = omega arith }
+    let end = drop_of_length-le c.args.in_flight {i = c.loop-i.i} (omega arith) in record { exactly = omega (arith, ap (count (λ t. t.taken)) end); bounded = omega arith }

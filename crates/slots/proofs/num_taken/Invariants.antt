@@ -1,13 +1,8 @@
 -- `num_taken` counts: what is counted and what the rest holds make up the whole. Assumes nothing.
-use native.Mathlib.Omega.{arith}
-use Prim.Native.Nat.{ℕ, ◌+◌, ◌-◌, ◌≤◌}
-use lib.ListN.{drop, drop_of_length-le}
-use mathlib.Core.List.{List}
-use mathlib.Core.Logic.{⊎_elim}
-use mathlib.Core.Path.{◌≡◌, ap}
-use Rattle.rules.proofs.Steps.{count_by}
+use Prim.Native.Nat.{◌+◌, ◌-◌, ◌≤◌}
+use lib.ListN.{drop}
+use mathlib.Core.Path.{◌≡◌}
 use Rattle.rules.specs.Lists.{count}
-use Rattle.rules.specs.declared.Transfer.{Transfer}
 use Rattle.slots.proofs.num_taken.Given as goal
 
 abbrev pub invariant-loop-i : goal.invariant-loop-i

@@ -1,6 +1,5 @@
 -- `cancelled` counts on what it read of the kind. Assumes nothing.
 use native.Mathlib.Omega.{arith}
-use borrow.Author.Rules.{rules}
 use Rattle.rules.specs.Cancel.{count_cancelled}
 use Rattle.tallies.proofs.Known.{changed_tally}
 use Rattle.tallies.proofs.cancelled.Goals as goal

@@ -1,6 +1,5 @@
 -- `completed` counts on what it read of the kind. Assumes nothing.
 use native.Mathlib.Omega.{arith}
-use borrow.Author.Rules.{rules}
 use Rattle.rules.specs.Advance.{count_completed}
 use Rattle.tallies.proofs.Known.{changed_tally}
 use Rattle.tallies.proofs.completed.Goals as goal

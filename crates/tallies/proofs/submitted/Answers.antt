@@ -1,6 +1,5 @@
 -- `submitted` counts on what it read of the kind. Assumes nothing.
 use native.Mathlib.Omega.{arith}
-use borrow.Author.Rules.{rules}
 use Rattle.rules.specs.Submission.{count_submitted}
 use Rattle.tallies.proofs.Known.{changed_tally}
 use Rattle.tallies.proofs.submitted.Goals as goal
