@@ -1,5 +1,6 @@
 // Owners and completions compared: which is listed first, and which are one.
 #![tactic(auto)]
+
 ghost use Rattle.std.specs.Prelude.{◌≡◌};
 ghost use Rattle.rules.specs.Records.{owner_kind, owner_worker, same_owner, owner_before, before};
 ghost use Rattle.rules.specs.Queue.{same_completion};

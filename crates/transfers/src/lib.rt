@@ -1,5 +1,6 @@
 // One transfer: whose bytes and crossings count, at which rate, when it is done, and who is done first.
 #![tactic(auto)]
+
 ghost use Rattle.std.specs.Prelude.{◌≡◌, cond};
 ghost use Rattle.rules.specs.Tolerance.{eps};
 ghost use Rattle.rules.specs.Filling.{takes_part, with_rate};
