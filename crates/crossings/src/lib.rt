@@ -1,5 +1,6 @@
 // How often each edge is crossed, and what that adds to the load integrals.
 #![tactic(auto)]
+
 ghost use Rattle.std.specs.Prelude.{◌≡◌, map, ◌≤◌, get_or, length};
 ghost use Rattle.rules.specs.Lists.{Each, map_from, sum};
 ghost use Rattle.rules.specs.Records.{free, own_path};

@@ -1,5 +1,6 @@
 // Draining: transfers brought forward to a time, and the edges credited with what they move.
 #![tactic(auto)]
+
 ghost use Rattle.std.specs.Prelude.{◌≡◌, get_or, length};
 ghost use mathlib.Core.List.{map, foldl};
 ghost use Rattle.doubles.specs.Doubles.{nought};

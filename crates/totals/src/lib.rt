@@ -1,5 +1,6 @@
 // What can be read off a simulator as it stands: nothing is brought up to date, and nothing changes.
 #![tactic(auto)]
+
 ghost use Rattle.std.specs.Prelude.{◌≡◌};
 ghost use Rattle.rules.specs.Records.{contains, num_in_flight};
 

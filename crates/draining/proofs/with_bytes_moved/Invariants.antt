@@ -1,0 +1,23 @@
+-- `with_bytes_moved` sets each edge's sum in place. Assumes nothing.
+use mathlib.Core.Path.{◌≡◌, refl, sym, ◌∙◌}
+use mathlib.Core.List.{List, ◌++◌}
+use Prim.Native.Nat.{ℕ, ◌-◌, ◌≤◌}
+use lib.ListN.{length, get_or, take, drop, length-set}
+use lib.Ieee.{Float, nan}
+use Rattle.doubles.specs.Doubles.{nought}
+use Rattle.rules.specs.declared.Edge.{Edge}
+use Rattle.rules.specs.Lists.{map_from}
+use Rattle.rules.proofs.Steps.{get_d_any}
+use Rattle.draining.specs.Credits.{with_moved}
+use Rattle.rules.proofs.Numbered.{place_one, place_end}
+use native.Mathlib.Omega.{arith}
+use Rattle.draining.proofs.with_bytes_moved.Given as goal
+
+abbrev pub moved_at : List Float → ℕ → Edge → Edge
+moved_at moved e edge = with_moved (get_or moved e nought) edge
+
+abbrev pub invariant-loop-e : goal.invariant-loop-e
+invariant-loop-e l = (l.e ≤ 64) × (length l.after ≡ 64) × (take l.e l.after ++ map_from l.e (moved_at l.moved) (drop l.e l.after) ≡ map_from 0 (moved_at l.moved) l.initial.after)
+
+abbrev pub decreases-loop-e : goal.decreases-loop-e
+decreases-loop-e l = 64 - l.e
