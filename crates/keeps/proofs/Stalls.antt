@@ -3,8 +3,10 @@
 use mathlib.Core.Path.{◌≡◌, refl, sym, subst}
 use Prim.Native.Nat.{ℕ, zero, suc, ◌^◌, ◌≤◌}
 use native.Mathlib.Omega.{arith}
+use mathlib.Core.Bool.{false}
+use Rattle.std.proofs.Common.{pos}
 use lib.Dec.{T}
-use lib.Ieee.{Float, binary64, add, mul, of_int, fits}
+use lib.Ieee.{Float, fin, binary64, add, mul, of_int, fits}
 use Rattle.doubles.specs.Doubles.{◌⊕◌, ◌⊖◌, ◌⊗◌, ◌≼◌, whole, plain, Plain}
 use Rattle.doubles.proofs.Binary64.{whole_plain}
 use Rattle.doubles.proofs.Ordered.{le→exact, exact→le}
@@ -20,9 +22,20 @@ top_plain : Plain (whole (2 ^ 107))
 unfolding plain fits of_int
 top_plain = record { is_plain = tt; is_held = tt }
 
+top_is : whole (2 ^ 107) ≡ fin false 1 (pos 107)
+unfolding of_int
+top_is = refl
+
+amount_is : whole (2 ^ 53) ≡ fin false 1 (pos 53)
+unfolding of_int
+amount_is = refl
+
+top_stays_so : fin false 1 (pos 107) ⊕ fin false 1 (pos 53) ≡ fin false 1 (pos 107)
+unfolding add
+top_stays_so = refl
+
 top_stays : whole (2 ^ 107) ⊕ whole (2 ^ 53) ≡ whole (2 ^ 107)
-unfolding add of_int
-top_stays = refl
+top_stays = rw (top_is, amount_is) top_stays_so
 
 most_busy : whole 2048 ⊗ whole (2 ^ 40) ≡ whole (2 ^ 51)
 unfolding mul of_int

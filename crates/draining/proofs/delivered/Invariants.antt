@@ -1,15 +1,9 @@
 -- `delivered` credits slot by slot sums that are kept apart, and puts them back. Assumes nothing.
-use mathlib.Core.Path.{◌≡◌, refl, sym, ap, ◌∙◌}
-use mathlib.Core.List.{List, foldl}
+use mathlib.Core.Path.{◌≡◌}
+use mathlib.Core.List.{foldl}
 use Prim.Native.Nat.{◌-◌, ◌≤◌}
-use lib.Ieee.{Float}
-use lib.ListN.{length, drop, drop_of_length-le, length-map}
-use Rattle.rules.proofs.Steps.{foldl_one}
+use lib.ListN.{length, drop}
 use Rattle.draining.specs.Credits.{credited}
-use Rattle.rules.proofs.Routes.{route_at}
-use Rattle.draining.proofs.PutBack.{put_back, length_credited, delivered_apart}
-use borrow.Author.Rules.{rules}
-use native.Mathlib.Omega.{arith}
 use Rattle.draining.proofs.delivered.Given as goal
 
 abbrev pub invariant-loop-i : goal.invariant-loop-i

@@ -1,12 +1,8 @@
 -- `with_bytes_moved` sets each edge's sum in place. Assumes nothing.
-use mathlib.Core.Path.{◌≡◌, refl, sym, ◌∙◌}
-use mathlib.Core.List.{List, ◌++◌}
-use Prim.Native.Nat.{ℕ, ◌-◌, ◌≤◌}
-use lib.ListN.{length, get_or, take, drop, length-set}
-use lib.Ieee.{Float, nan}
+use mathlib.Core.Path.{refl, sym, ◌∙◌}
+use lib.ListN.{length-set}
+use lib.Ieee.{nan}
 use Rattle.doubles.specs.Doubles.{nought}
-use Rattle.rules.specs.declared.Edge.{Edge}
-use Rattle.rules.specs.Lists.{map_from}
 use Rattle.rules.proofs.Steps.{get_d_any}
 use Rattle.draining.specs.Credits.{with_moved}
 use Rattle.rules.proofs.Numbered.{place_one, place_end}
@@ -27,7 +23,7 @@ pub offset_bounds-after-e : goal.offset_bounds-after-e
 offset_bounds-after-e c = omega arith
 
 pub bounds-after-e : goal.bounds-after-e
-bounds-after-e c = (omega arith, tt)
+bounds-after-e c = omega arith
 
 pub overflow_add-e : goal.overflow_add-e
 overflow_add-e c = omega arith

@@ -1,16 +1,13 @@
 -- `with_bytes_moved` sets each edge's sum in place. Assumes nothing.
-use mathlib.Core.Path.{◌≡◌, refl, sym, ◌∙◌}
+use mathlib.Core.Path.{◌≡◌}
 use mathlib.Core.List.{List, ◌++◌}
 use Prim.Native.Nat.{ℕ, ◌-◌, ◌≤◌}
-use lib.ListN.{length, get_or, take, drop, length-set}
-use lib.Ieee.{Float, nan}
+use lib.ListN.{length, get_or, take, drop}
+use lib.Ieee.{Float}
 use Rattle.doubles.specs.Doubles.{nought}
 use Rattle.rules.specs.declared.Edge.{Edge}
 use Rattle.rules.specs.Lists.{map_from}
-use Rattle.rules.proofs.Steps.{get_d_any}
 use Rattle.draining.specs.Credits.{with_moved}
-use Rattle.rules.proofs.Numbered.{place_one, place_end}
-use native.Mathlib.Omega.{arith}
 use Rattle.draining.proofs.with_bytes_moved.Given as goal
 
 abbrev pub moved_at : List Float → ℕ → Edge → Edge
