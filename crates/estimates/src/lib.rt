@@ -1,5 +1,6 @@
 // Estimates: the time a transfer would need that is not there yet.
 #![tactic(auto)]
+
 ghost use Rattle.std.specs.Prelude.{◌≡◌, ◌||◌, ◌+◌, ◌≤◌};
 ghost use Rattle.doubles.specs.Doubles.{◌⊘◌, whole};
 ghost use Rattle.rules.specs.Filling.{takes_part};
