@@ -1,6 +1,6 @@
 // Collecting: an owner takes what waits for it out of the queue, into a lent buffer.
 #![tactic(auto)]
-ghost use Rattle.std.specs.Prelude.{◌≡◌, not, map, ◌≤◌, take};
+ghost use Rattle.std.specs.Prelude.{◌≡◌, not, map, ◌≤◌, take, length};
 ghost use Rattle.rules.specs.Lists.{count, those, write_front};
 ghost use Rattle.rules.specs.Queue.{belongs, take_completed};
 ghost use Rattle.rules.specs.Invariant.{Invariant};
@@ -68,7 +68,7 @@ fn belongs(owner: Owner, c: Completion) -> bool
 // The owner's ids at the front of the buffer, in the order of the table.
 fn write_ids(completed: [Completion; 256], n: usize, owner: Owner, out: &mut [u32])
     requires n_bound { n ≤ 256 }
-    requires* completed_bound { do ⌜ count (belongs owner) (take n completed) ≤ (← ⟦out.len()⟧) ⌝ }
+    requires room { count (belongs owner) (take n completed) ≤ length out.old }
     ensures { out.new ≡ write_front (map (λ c. c.id) (those (belongs owner) (take n completed))) out.old }
 {
     let mut k: usize = 0;

@@ -63,7 +63,7 @@ fn num_owners(completed: [Completion; 256], n: usize) -> usize
 fn write_owners(completed: [Completion; 256], n: usize, out: &mut [u32])
     requires n_bound { n ≤ 256 }
     requires in_order { InOrder n completed }
-    requires* completed_bound { do ⌜ 2 * length (owners (take n completed)) ≤ (← ⟦out.len()⟧) ⌝ }
+    requires room { 2 * length (owners (take n completed)) ≤ length out.old }
     ensures { out.new ≡ write_front (pairs (owners (take n completed))) out.old }
 {
     let mut k: usize = 0;

@@ -1,5 +1,6 @@
 // One round of a filling: what it decides, and whom that freezes.
 #![tactic(auto)]
+
 ghost use Rattle.std.specs.Prelude.{◌≡◌, cond, ℕ, ◌-◌, ◌≤◌, ◌<◌, ltb, length, get_or};
 ghost use Rattle.rules.specs.Lists.{at_each_crossing};
 ghost use Rattle.rules.specs.Records.{own_path};

@@ -1,5 +1,4 @@
 -- `estimate` counts who takes part and walks the path, where there is one. Assumes nothing.
-use borrow.Author.Rules.{rules}
 use Rattle.estimates.proofs.Shares.{over_none, over_some}
 use Rattle.rules.proofs.Routes.{all_routes, all_room}
 use Rattle.crossings.specs.Loads.{counts}

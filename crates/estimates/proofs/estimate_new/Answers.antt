@@ -1,5 +1,4 @@
 -- `estimate_new` is the estimate without a cap. Assumes nothing.
-use borrow.Author.Rules.{rules}
 use Rattle.rules.specs.Questions.{estimate_new}
 use Rattle.estimates.proofs.estimate_new.Goals as goal
 

@@ -1,5 +1,4 @@
 -- `estimate_new_capped` refuses in the order of the numbers, and then reads its arguments and estimates. Assumes nothing.
-use borrow.Author.Rules.{rules}
 use native.Mathlib.Omega.{arith}
 use borrow.Author.Tests.{lt-ltb, le-ltb}
 use lib.Dec.{ltb}

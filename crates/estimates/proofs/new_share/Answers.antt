@@ -1,5 +1,4 @@
 -- `new_share` divides by a load that leaves room for one more. Assumes nothing.
-use borrow.Author.Rules.{rules}
 use Rattle.estimates.proofs.new_share.Goals as goal
 
 pub returns : goal.returns

@@ -1,5 +1,4 @@
 -- `not_numbers` asks of each number in turn. Assumes nothing.
-use borrow.Author.Rules.{rules}
 use Rattle.estimates.proofs.not_numbers.Goals as goal
 
 pub returns-then-not_an_amount : goal.returns-then-not_an_amount

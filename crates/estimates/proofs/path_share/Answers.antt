@@ -1,12 +1,11 @@
 -- `path_share` keeps the least share so far: the shares of the edges ahead, taken from it, make the least of all. Assumes nothing.
-use borrow.Author.Rules.{rules}
-use Prim.Native.Nat.{◌-◌, ◌≤◌, ◌<◌}
+use Prim.Native.Nat.{◌≤◌, ◌<◌}
 use lib.Ieee.{of_bits, div}
-use lib.ListN.{length, get_or, drop, drop_of_length-le}
-use mathlib.Core.Path.{◌≡◌, refl}
+use lib.ListN.{length, get_or, drop_of_length-le}
+use mathlib.Core.Path.{refl}
 use native.Mathlib.Omega.{arith}
 use Rattle.doubles.specs.Doubles.{smaller}
-use Rattle.estimates.proofs.Shares.{share_by, least_by, least_share}
+use Rattle.estimates.proofs.Shares.{share_by, least_share}
 use Rattle.rules.proofs.Steps.{foldl_one, get_d_any}
 use Rattle.rules.specs.Records.{blank_edge}
 use Rattle.rules.specs.Filling.{takes_part}

@@ -1,17 +1,8 @@
 -- `path_share` keeps the least share so far: the shares of the edges ahead, taken from it, make the least of all. Assumes nothing.
-use borrow.Author.Rules.{rules}
-use Prim.Native.Nat.{◌-◌, ◌≤◌, ◌<◌}
-use lib.Ieee.{of_bits, div}
-use lib.ListN.{length, get_or, drop, drop_of_length-le}
-use mathlib.Core.Path.{◌≡◌, refl}
-use native.Mathlib.Omega.{arith}
-use Rattle.doubles.specs.Doubles.{smaller}
-use Rattle.estimates.proofs.Shares.{share_by, least_by, least_share}
-use Rattle.rules.proofs.Steps.{foldl_one, get_d_any}
-use Rattle.rules.specs.Records.{blank_edge}
-use Rattle.rules.specs.Filling.{takes_part}
-use Rattle.crossings.proofs.Loads.{loads_bound}
-use Rattle.rules.proofs.Routes.{all_room}
+use Prim.Native.Nat.{◌-◌, ◌≤◌}
+use lib.ListN.{length, drop}
+use mathlib.Core.Path.{◌≡◌}
+use Rattle.estimates.proofs.Shares.{least_by}
 use Rattle.estimates.proofs.path_share.Given as goal
 
 abbrev pub invariant-loop-i : goal.invariant-loop-i

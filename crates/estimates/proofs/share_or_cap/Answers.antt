@@ -1,5 +1,4 @@
 -- `share_or_cap` is the definition, case by case. Assumes nothing.
-use borrow.Author.Rules.{rules}
 use Rattle.rules.specs.Questions.{share_or_cap}
 use Rattle.estimates.proofs.share_or_cap.Goals as goal
 

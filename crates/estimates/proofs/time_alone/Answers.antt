@@ -1,5 +1,4 @@
 -- `time_alone` is the definition, case by case. Assumes nothing.
-use borrow.Author.Rules.{rules}
 use Rattle.rules.specs.Questions.{time_alone}
 use Rattle.estimates.proofs.time_alone.Goals as goal
 

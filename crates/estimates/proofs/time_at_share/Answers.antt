@@ -1,5 +1,4 @@
 -- `time_at_share` is the definition, test by test; one over zero is infinite. Assumes nothing.
-use borrow.Author.Rules.{rules}
 use lib.Ieee.{of_bits, div}
 use Rattle.rules.specs.Questions.{time_at_share}
 use Rattle.estimates.proofs.time_at_share.Goals as goal

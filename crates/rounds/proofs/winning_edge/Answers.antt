@@ -1,0 +1,41 @@
+-- `winning_edge` folds: the best so far, the first share to begin with, against the shares of the edges left gives the smallest of all. Assumes nothing.
+use mathlib.Core.Path.{◌≡◌, refl, sym, ◌∙◌}
+use mathlib.Core.List.{foldl}
+use Prim.Native.Nat.{◌-◌, ◌≤◌}
+use lib.ListN.{length, drop, drop_of_length-le}
+use Rattle.rules.specs.Filling.{shares, tighter_share, smallest_share}
+use Rattle.rounds.specs.Standing.{shares_by}
+use Rattle.rounds.proofs.Searching.{best_one}
+use borrow.Author.Rules.{rules}
+use native.Mathlib.Omega.{arith}
+use Rattle.rounds.proofs.winning_edge.Goals as goal
+
+pub first_share-best-requires : goal.first_share-best-requires
+first_share-best-requires c = let both = c.requires in record { same = both.0; few = both.1.0; loaded = both.1.1 }
+
+pub loop-e-init : goal.loop-e-init
+unfolding smallest_share
+loop-e-init c = (search rules, rw c.first_share-best.ensures refl)
+
+pub offset_bounds-load-e : goal.offset_bounds-load-e
+offset_bounds-load-e c = omega (arith, c.requires.same)
+
+pub bounds-load-e : goal.bounds-load-e
+bounds-load-e c = omega (arith, c.requires.same)
+
+pub against-best-requires : goal.against-best-requires
+against-best-requires c = c.requires.few c.loop-e.e
+
+pub loop-e-preserved : goal.loop-e-preserved
+loop-e-preserved c = (
+  omega arith,
+  rw c.against-best.ensures
+      (sym (best_one c.args.load.now c.args.residual.now c.loop-e.e _ c.loop-e-test.true c.loop-e.best)
+      ∙ c.loop-e.invariant.1),
+)
+
+pub returns : goal.returns
+unfolding shares
+returns c =
+    let over : length c.args.residual.now ≤ c.loop-e.e = search rules in
+    rw (drop_of_length-le c.args.residual.now over) at c.loop-e.invariant.1
