@@ -1,5 +1,6 @@
 // Collecting: an owner takes what waits for it out of the queue, into a lent buffer.
 #![tactic(auto)]
+
 ghost use Rattle.std.specs.Prelude.{◌≡◌, not, map, ◌≤◌, take, length};
 ghost use Rattle.rules.specs.Lists.{count, those, write_front};
 ghost use Rattle.rules.specs.Queue.{belongs, take_completed};

@@ -1,5 +1,6 @@
 // Who has something to collect, listed into a lent buffer; nothing changes.
 #![tactic(auto)]
+
 ghost use Rattle.std.specs.Prelude.{◌≤◌, ◌<◌, ◌+◌, ◌*◌, ◌≡◌, length, take, drop, get_or};
 ghost use Rattle.rules.specs.Lists.{any, write_front};
 ghost use Rattle.rules.specs.Records.{blank_completion};

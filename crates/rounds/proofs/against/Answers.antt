@@ -2,7 +2,6 @@
 use mathlib.Core.Path.{refl, ap, ◌∙◌}
 use Rattle.rules.specs.Filling.{tighter_share}
 use borrow.Author.Tests.{lt-ltb, le-ltb}
-use borrow.Author.Rules.{rules}
 use Rattle.rounds.proofs.against.Goals as goal
 
 pub returns-then-load-gt0 : goal.returns-then-load-gt0

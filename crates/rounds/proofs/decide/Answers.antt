@@ -1,9 +1,7 @@
 -- `decide` asks for the next cap and the tightest edge: the order's first is the smallest cap, and the load table is right. Assumes nothing.
 use mathlib.Core.Path.{refl, sym}
-use Rattle.rules.specs.Filling.{verdict}
 use Rattle.rounds.proofs.Deciding.{loads_few, shares_right}
 use native.Mathlib.Omega.{arith}
-use borrow.Author.Rules.{rules}
 use Rattle.rounds.proofs.decide.Goals as goal
 
 pub next_cap-next-requires : goal.next_cap-next-requires
@@ -19,4 +17,4 @@ pub winning_edge-best-requires : goal.winning_edge-best-requires
 winning_edge-best-requires c = record { same = omega (arith, c.requires.standing.edges, c.requires.standing.loads.places); few = loads_few c.args.f c.requires.standing; loaded = c.requires.loaded }
 
 pub returns : goal.returns
-returns c = let both = (rw (c.verdict.ensures, c.next_cap-next.ensures.first, c.winning_edge-best.ensures, c.requires.coming.ranked, shares_right c.args.f c.requires.standing) refl, c.next_cap-next.ensures.1) in record { verdict = both.0; cursor = both.1.0; passed = both.1.1 }
+returns c = record { verdict = rw (c.verdict.ensures, c.next_cap-next.ensures.first, c.winning_edge-best.ensures, c.requires.coming.ranked, shares_right c.args.f c.requires.standing) refl; cursor = c.next_cap-next.ensures.cursor; passed = c.next_cap-next.ensures.passed }

@@ -1,11 +1,9 @@
 -- `first_share` passes over edges without load; some edge has load, so it stays inside the table. Assumes nothing.
-use mathlib.Core.Path.{◌≡◌, refl, sym, ◌∙◌}
-use Prim.Native.Nat.{ℕ, ◌-◌, ◌<◌}
+use mathlib.Core.Path.{refl, sym, ◌∙◌}
+use Prim.Native.Nat.{ℕ}
 use mathlib.Core.List.{List}
-use lib.ListN.{length}
 use Rattle.doubles.specs.Doubles.{nought}
-use Rattle.rounds.proofs.Searching.{first_from, NoneBefore, inside, none_before_next, first_passed, first_found}
-use borrow.Author.Rules.{rules}
+use Rattle.rounds.proofs.Searching.{inside, none_before_next, first_passed, first_found}
 use native.Mathlib.Omega.{arith}
 use Rattle.rounds.proofs.first_share.Goals as goal
 

@@ -1,12 +1,8 @@
 -- `first_share` passes over edges without load; some edge has load, so it stays inside the table. Assumes nothing.
-use mathlib.Core.Path.{◌≡◌, refl, sym, ◌∙◌}
-use Prim.Native.Nat.{ℕ, ◌-◌, ◌<◌}
-use mathlib.Core.List.{List}
+use mathlib.Core.Path.{◌≡◌}
+use Prim.Native.Nat.{◌-◌, ◌<◌}
 use lib.ListN.{length}
-use Rattle.doubles.specs.Doubles.{nought}
-use Rattle.rounds.proofs.Searching.{first_from, NoneBefore, inside, none_before_next, first_passed, first_found}
-use borrow.Author.Rules.{rules}
-use native.Mathlib.Omega.{arith}
+use Rattle.rounds.proofs.Searching.{first_from, NoneBefore}
 use Rattle.rounds.proofs.first_share.Given as goal
 
 abbrev pub invariant-loop-first : goal.invariant-loop-first

@@ -2,11 +2,9 @@
 use mathlib.Core.Path.{refl, sym, ◌∙◌}
 use mathlib.Core.Bool.{true, false}
 use Rattle.rules.specs.Records.{own_path}
-use Rattle.rules.specs.Filling.{names}
 use Rattle.paths.proofs.Routes.{known_route, route_length}
 use Rattle.rounds.proofs.Freezing.{freezes_when, freezes_not, freeze_when, frozen_is}
 use native.Mathlib.Omega.{arith}
-use borrow.Author.Rules.{rules}
 use Rattle.rounds.proofs.freeze.Goals as goal
 
 pub slice_bounds-hops-end : goal.slice_bounds-hops-end

@@ -1,7 +1,6 @@
 -- `limit_by` takes the definition's cases one by one. Assumes nothing.
 use mathlib.Core.Path.{sym, ap}
 use Rattle.rules.specs.Filling.{limit_by}
-use borrow.Author.Rules.{rules}
 use Rattle.rounds.proofs.limit_by.Goals as goal
 
 pub returns-in-ByCap : goal.returns-in-ByCap

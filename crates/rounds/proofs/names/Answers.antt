@@ -1,6 +1,5 @@
 -- `names` takes the definition's cases one by one: a number is equal, or the path crosses the edge. Assumes nothing.
 use Rattle.rules.specs.Filling.{names}
-use borrow.Author.Rules.{rules}
 use Rattle.rounds.proofs.names.Goals as goal
 
 pub returns-in-ByCap : goal.returns-in-ByCap

@@ -1,6 +1,5 @@
 -- `rate_by` takes the definition's cases one by one. Assumes nothing.
 use Rattle.rules.specs.Filling.{rate_by}
-use borrow.Author.Rules.{rules}
 use Rattle.rounds.proofs.rate_by.Goals as goal
 
 pub returns-in-ByCap : goal.returns-in-ByCap

@@ -1,12 +1,11 @@
 -- `round` carries the verdict out seat by seat, in place, counting those that stay unfrozen. Assumes nothing.
 use mathlib.Core.Path.{◌≡◌, refl, sym, ap, ◌∙◌}
 use mathlib.Core.Bool.{Bool, true, false, cond}
-use mathlib.Core.Logic.{⊎_elim}
-use Prim.Native.Nat.{◌+◌, ◌-◌}
+use Prim.Native.Nat.{◌+◌}
 use Rattle.rules.specs.Filling.{num_unfrozen, frozen_by}
-use Rattle.rounds.proofs.Freezing.{filling_same, Freezing, freezing_starts, freezing_asks, freezing_one, seats_done, edges_done, loads_done, count_done}
-use borrow.Author.Rules.{rules}
+use Rattle.rounds.proofs.Freezing.{filling_same, freezing_starts, freezing_asks, freezing_one, seats_done, edges_done, loads_done, count_done}
 use native.Mathlib.Omega.{arith}
+use Rattle.rounds.proofs.round.Goals.{then-s, else-s}
 use Rattle.rounds.proofs.round.Goals as goal
 
 pub loop-i-init : goal.loop-i-init
@@ -34,7 +33,10 @@ pub loop-i-preserved : goal.loop-i-preserved
 loop-i-preserved c =
     let is : (b : Bool) → c.freeze-s.result.unfrozen ≡ b → c.if-s.unfrozen ≡ c.loop-i.unfrozen + cond b 1 0 → c.if-s.unfrozen ≡ c.loop-i.unfrozen + cond c.freeze-s.result.unfrozen 1 0 = λ b u e. e ∙ ap (λ (z : Bool). c.loop-i.unfrozen + cond z 1 0) (sym u) in
     freezing_one c.args.v c.args.f.seats c.requires.standing.places c.args.f.residual c.loop-i.after.seats c.loop-i.residual c.loop-i.load c.loop-i.unfrozen c.loop-i.i c.loop-i.invariant _ c.loop-i-test.true _ c.freeze-s.ensures.residual _ c.freeze-s.ensures.load c.freeze-s.result c.if-s.unfrozen c.freeze-s.ensures.seat
-    (⊎_elim (λ w. is true w.0.taken w.1) (λ w. is false w.0.left (omega (arith, w.1))) c.if-s.branch)
+    (elim c.if-s.branch [
+      then-s w ↦ is true w.if-s.true w.unfrozen-is
+    | else-s w ↦ is false w.if-s.false (omega (arith, w.unfrozen-is))
+    ])
 
 pub overflow_add-after : goal.overflow_add-after
 overflow_add-after c = omega (arith, c.requires.few)

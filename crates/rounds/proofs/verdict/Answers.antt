@@ -1,6 +1,5 @@
 -- `verdict` takes the definition's cases one by one, with its one test where there is a cap. Assumes nothing.
 use Rattle.rules.specs.Filling.{verdict}
-use borrow.Author.Rules.{rules}
 use Rattle.rounds.proofs.verdict.Goals as goal
 
 pub returns-in_default : goal.returns-in_default

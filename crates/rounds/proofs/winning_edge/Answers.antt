@@ -1,17 +1,15 @@
 -- `winning_edge` folds: the best so far, the first share to begin with, against the shares of the edges left gives the smallest of all. Assumes nothing.
-use mathlib.Core.Path.{◌≡◌, refl, sym, ◌∙◌}
-use mathlib.Core.List.{foldl}
-use Prim.Native.Nat.{◌-◌, ◌≤◌}
-use lib.ListN.{length, drop, drop_of_length-le}
-use Rattle.rules.specs.Filling.{shares, tighter_share, smallest_share}
-use Rattle.rounds.specs.Standing.{shares_by}
+use mathlib.Core.Path.{refl, sym, ◌∙◌}
+use Prim.Native.Nat.{◌≤◌}
+use lib.ListN.{length, drop_of_length-le}
+use Rattle.rules.specs.Filling.{shares, smallest_share}
 use Rattle.rounds.proofs.Searching.{best_one}
 use borrow.Author.Rules.{rules}
 use native.Mathlib.Omega.{arith}
 use Rattle.rounds.proofs.winning_edge.Goals as goal
 
 pub first_share-best-requires : goal.first_share-best-requires
-first_share-best-requires c = let both = c.requires in record { same = both.0; few = both.1.0; loaded = both.1.1 }
+first_share-best-requires c = c.requires
 
 pub loop-e-init : goal.loop-e-init
 unfolding smallest_share

@@ -1,13 +1,10 @@
 -- `winning_edge` folds: the best so far, the first share to begin with, against the shares of the edges left gives the smallest of all. Assumes nothing.
-use mathlib.Core.Path.{◌≡◌, refl, sym, ◌∙◌}
+use mathlib.Core.Path.{◌≡◌}
 use mathlib.Core.List.{foldl}
 use Prim.Native.Nat.{◌-◌, ◌≤◌}
-use lib.ListN.{length, drop, drop_of_length-le}
-use Rattle.rules.specs.Filling.{shares, tighter_share, smallest_share}
+use lib.ListN.{length, drop}
+use Rattle.rules.specs.Filling.{tighter_share, smallest_share}
 use Rattle.rounds.specs.Standing.{shares_by}
-use Rattle.rounds.proofs.Searching.{best_one}
-use borrow.Author.Rules.{rules}
-use native.Mathlib.Omega.{arith}
 use Rattle.rounds.proofs.winning_edge.Given as goal
 
 abbrev pub invariant-loop-e : goal.invariant-loop-e
