@@ -1,0 +1,27 @@
+-- `fill` goes round by round: each freezes somebody and leaves what the definition has left to do. Assumes nothing.
+use mathlib.Core.Path.{sym, ◌∙◌}
+use Rattle.rules.specs.Records.{own_path}
+use Rattle.fairness.proofs.Start.{own_path_kept}
+use Rattle.fairness.proofs.Rounds.{no_more_rounds}
+use Rattle.rounds.specs.Standing.{filling}
+use Rattle.filling.proofs.Running.{running_starts, running_comes, running_loaded, round_fewer, running_on}
+use native.Mathlib.Omega.{arith}
+use Rattle.filling.proofs.fill.Goals as goal
+
+pub loop-f-init : goal.loop-f-init
+loop-f-init c = running_starts c.args.start c.args.order c.requires.begun c.requires.ordered
+
+pub decide-decided-requires : goal.decide-decided-requires
+decide-decided-requires c = record { standing = c.loop-f.invariant.standing; coming = running_comes c.args.start c.args.order c.requires.begun c.requires.ordered c.loop-f.f c.loop-f.invariant; loaded = running_loaded c.args.start c.args.order c.requires.begun c.requires.ordered c.loop-f.f c.loop-f.invariant c.loop-f-test.true }
+
+pub round-f-requires : goal.round-f-requires
+round-f-requires c = record { standing = c.loop-f.invariant.standing; few = omega (arith, c.loop-f.invariant.few, c.loop-f-test.true) }
+
+pub loop-f-smaller : goal.loop-f-smaller
+loop-f-smaller c = round_fewer c.args.start c.args.order c.requires.begun c.requires.ordered c.loop-f.f c.loop-f.invariant c.loop-f-test.true c.decide-decided.result.verdict c.decide-decided.result.cursor c.decide-decided.ensures.verdict c.decide-decided.ensures.passed c.round-f.result c.round-f.ensures
+
+pub loop-f-preserved : goal.loop-f-preserved
+loop-f-preserved c = running_on c.args.start c.args.order c.requires.begun c.requires.ordered c.loop-f.f c.loop-f.invariant c.loop-f-test.true c.decide-decided.result.verdict c.decide-decided.result.cursor c.decide-decided.ensures.verdict c.decide-decided.ensures.passed c.round-f.result c.round-f.ensures
+
+pub returns : goal.returns
+returns c = sym (no_more_rounds own_path own_path_kept (filling c.loop-f.f) (omega (arith, c.loop-f.invariant.standing.counted, c.loop-f-test.false))) ∙ c.loop-f.invariant.same
