@@ -1,5 +1,6 @@
 // The clock: rates brought up to date, and transfers drained to a time.
 #![tactic(auto)]
+
 ghost use Rattle.std.specs.Prelude.{◌≡◌, cond, T, length};
 ghost use Rattle.doubles.specs.Doubles.{◌≺◌, ◌≼◌};
 ghost use Rattle.rules.specs.Records.{made_stale};
