@@ -1,5 +1,6 @@
 // The call that gives a transfer up. An id that is not in flight changes nothing; else it drains to the clock, counts and frees the slot, and leaves rates stale.
 #![tactic(auto)]
+
 ghost use Rattle.std.specs.Prelude.{◌≡◌};
 ghost use Rattle.rules.specs.Cancel.{cancel};
 ghost use Rattle.rules.specs.Invariant.{Invariant};

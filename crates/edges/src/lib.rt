@@ -1,5 +1,6 @@
 // The calls that change edges: one more edge, and another capacity. Each tests its refusals first, lowest number first, then drains to the clock, makes its change and leaves rates stale.
 #![tactic(auto)]
+
 ghost use Rattle.std.specs.Prelude.{◌≡◌};
 ghost use Rattle.rules.specs.Edges.{add_edge, no_widening, widen};
 ghost use Rattle.rules.specs.Invariant.{Invariant};

@@ -1,5 +1,6 @@
 // Questions with some work to them. Three bring rates up to date and hand back the simulator that answered; two read an edge.
 #![tactic(auto)]
+
 ghost use Rattle.std.specs.Prelude.{◌≡◌};
 ghost use Rattle.rules.specs.Refusals.{no_such_edge};
 ghost use Rattle.rules.specs.Questions.{next_completion_delay, delay_until, rate, rate_in, bottleneck, limit_in, mean_in_flight, mean_over, edge as the_edge};

@@ -1,5 +1,6 @@
 // Starting: what the tables refuse of a submission, and its work once nothing is refused.
 #![tactic(auto)]
+
 ghost use Rattle.std.specs.Prelude.{◌≤◌, ◌<◌, ◌+◌, ◌-◌, ◌^◌, ◌≡◌, T, eqb};
 ghost use Rattle.doubles.specs.Doubles.{◌≼◌};
 ghost use Rattle.rules.specs.Records.{num_in_flight, tally_of};

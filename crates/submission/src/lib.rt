@@ -1,5 +1,6 @@
 // Submission: a transfer starts, or the lowest refusal that applies is answered.
 #![tactic(auto)]
+
 ghost use Rattle.std.specs.Prelude.{◌≡◌, ◌||◌, ◌≤◌, length};
 ghost use Rattle.doubles.specs.Doubles.{read_zero};
 ghost use Rattle.rules.specs.Refusals.{not_finite, not_a_cap, not_a_time, read_cap};

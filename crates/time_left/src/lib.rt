@@ -1,5 +1,6 @@
 // The time a transfer still takes: a call that settles the simulator at its clock, and a question that only reads.
 #![tactic(auto)]
+
 ghost use Rattle.std.specs.Prelude.{◌≡◌};
 ghost use Rattle.rules.specs.TimeLeft.{settle, or_cannot_finish, remaining_in, behind, remaining};
 ghost use Rattle.rules.specs.Invariant.{Invariant};

@@ -1,0 +1,22 @@
+-- `edge` reads the place of a number that an edge has. Assumes nothing.
+use mathlib.Core.Path.{sym, ◌∙◌}
+use native.Mathlib.Omega.{arith}
+use Rattle.questions.proofs.There.{there}
+use Rattle.rules.proofs.Steps.{get_d_any}
+use Rattle.rules.specs.Questions.{edge}
+use Rattle.rules.specs.Records.{blank_edge}
+use Rattle.rules.specs.Refusals.{refusing}
+use Rattle.questions.proofs.edge.Goals as goal
+
+pub returns-then-no_such_edge : goal.returns-then-no_such_edge
+unfolding edge refusing
+returns-then-no_such_edge c = rw (← c.no_such_edge.ensures, c.if-no_such_edge.true)
+
+pub bounds-edges-e : goal.bounds-edges-e
+bounds-edges-e c = omega (arith, there c.requires c.args.edge (sym c.no_such_edge.ensures ∙ c.if-no_such_edge.false), c.wide-e.ensures)
+
+pub returns : goal.returns
+unfolding edge refusing
+returns c =
+    let inside = there c.requires c.args.edge (sym c.no_such_edge.ensures ∙ c.if-no_such_edge.false) in
+    rw (← c.no_such_edge.ensures, c.if-no_such_edge.false, c.wide-e.ensures, ← get_d_any c.args.flows.edges c.args.edge blank_edge)
