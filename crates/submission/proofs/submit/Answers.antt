@@ -1,5 +1,4 @@
 -- `submit` is a capped submission with no cap. Assumes nothing.
-use borrow.Author.Rules.{rules}
 use Rattle.rules.specs.Submission.{submit}
 use Rattle.submission.proofs.submit.Goals as goal
 

@@ -93,14 +93,14 @@ start-requires c =
     let at = c.args.time in
     let typed : T (fits binary64 at) = search rules in
     let time = (neither (not_finite c.args.latency || not_a_cap c.args.rate_cap) (not_a_time at) (sym c.not_numbers.ensures ∙ c.if-not_numbers.false)).1 in
-    let own_time : c.submitted_transfer-transfer.result.last_update ≡ read_zero at = rw c.submitted_transfer-transfer.ensures in record { sound = rw own_time (c.requires); time = rw own_time (time_clock at typed time); later = rw own_time (time_no_earlier at typed time c.requires.clock.plain c.if-time-flows.false) }
+    let own_time : c.submitted_transfer-transfer.result.last_update ≡ read_zero at = rw c.submitted_transfer-transfer.ensures in record { sound = c.requires; time = rw own_time (time_clock at typed time); later = rw own_time (time_no_earlier at typed time c.requires.clock.plain c.if-time-flows.false) }
 
 pub returns : goal.returns
 unfolding submit_capped refusing no_such_edge too_long submitted start submitted_transfer
 returns c =
     let a = c.args in
     let good = c.well_formed.1.1.1.1.1 in
-    let is : c.start.result ≡ submit_capped a.id a.owner a.path.now a.bytes a.latency a.rate-cap a.time a.flows =
+    let is : c.start.result ≡ submit_capped a.id a.owner a.path.now a.bytes a.latency a.rate_cap a.time a.flows =
     rw (
       c.start.ensures,
       c.submitted_transfer-transfer.ensures,
@@ -111,4 +111,4 @@ returns c =
       c.if-names_no_edge.false,
       le-ltb 8 (length c.args.path.now) (omega (arith, c.if-path-gt8.false)),
       le-ltb (2 ^ 53) c.args.bytes (omega (arith, c.if-bytes-gt9007199254740992.false)),
-    ) in record { exactly = is; sound = rw is (submit_capped_keeps a.id a.owner a.path.now a.bytes a.latency a.rate-cap a.time a.flows (passes _ good.0.1) (cap_typed _ _ good.1.0) (passes _ good.1.1.0.1) c.requires) }
+    ) in record { exactly = is; sound = rw is (submit_capped_keeps a.id a.owner a.path.now a.bytes a.latency a.rate_cap a.time a.flows (passes _ good.0.1) (cap_typed _ _ good.1.0) (passes _ good.1.1.0.1) c.requires) }
