@@ -1,5 +1,6 @@
 // A call as data, made: what a program that reads its calls does with each of them.
 #![tactic(auto)]
+
 ghost use Rattle.std.specs.Prelude.{◌≡◌};
 ghost use Rattle.rules.specs.declared.Said.TheVariants.{Answered};
 ghost use Rattle.rules.specs.Histories.{changing as the_changing, asking as the_asking, call as the_call};
