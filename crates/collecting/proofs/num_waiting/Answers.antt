@@ -13,8 +13,8 @@ loop-i-init c = (omega arith, omega arith, omega arith)
 pub loop-i-preserved : goal.loop-i-preserved
 loop-i-preserved c =
     elim c.if-belongs.branch [
-      then-belongs w ↦ let one = count_by (belongs c.args.owner) c.args.completed c.args.n c.loop-i.i _ true (sym c.belongs.ensures ∙ w.if-belongs.true) (omega arith) (omega arith) in (omega arith, omega arith, omega arith)
-    | else-belongs w ↦ let none = count_by (belongs c.args.owner) c.args.completed c.args.n c.loop-i.i _ false (sym c.belongs.ensures ∙ w.if-belongs.false) (omega arith) (omega arith) in (omega arith, omega arith, omega arith)
+      | then-belongs w ↦ let one = count_by (belongs c.args.owner) c.args.completed c.args.n c.loop-i.i _ true (sym c.belongs.ensures ∙ w.if-belongs.true) (omega arith) (omega arith) in (omega arith, omega arith, omega arith)
+      | else-belongs w ↦ let none = count_by (belongs c.args.owner) c.args.completed c.args.n c.loop-i.i _ false (sym c.belongs.ensures ∙ w.if-belongs.false) (omega arith) (omega arith) in (omega arith, omega arith, omega arith)
     ]
 
 pub returns : goal.returns

@@ -20,21 +20,21 @@ loop-i-init c = (omega arith, omega arith, omega arith, omega arith, refl)
 pub loop-i-preserved : goal.loop-i-preserved
 loop-i-preserved c =
     elim c.if-not-belongs.branch [
-      then-not-belongs w ↦ let one = those_by (λ d. not (belongs c.args.owner d)) c.args.completed c.args.n c.loop-i.i _ true (ap not (sym c.belongs.ensures ∙ w.if-not-belongs.true)) (omega arith) (omega arith) in
-    let room : c.loop-i.k < length c.loop-i.entries = omega arith in (
-      omega arith,
-      omega arith,
-      rw w.entries-is (simp length-set c.loop-i.invariant.2),
-      omega (arith, ap length one),
-      rw (w.entries-is, w.k-is, written_one, ← c.loop-i.invariant.4, one) refl,
-    )
-    | else-not-belongs w ↦ let none = those_by (λ d. not (belongs c.args.owner d)) c.args.completed c.args.n c.loop-i.i _ false (ap not (sym c.belongs.ensures ∙ w.if-not-belongs.false)) (omega arith) (omega arith) in (
-      omega arith,
-      omega arith,
-      rw w.entries-is c.loop-i.invariant.2,
-      omega (arith, ap length none),
-      rw (w.entries-is, w.k-is, ← c.loop-i.invariant.4, none) refl,
-    )
+      | then-not-belongs w ↦ let one = those_by (λ d. not (belongs c.args.owner d)) c.args.completed c.args.n c.loop-i.i _ true (ap not (sym c.belongs.ensures ∙ w.if-not-belongs.true)) (omega arith) (omega arith) in
+          let room : c.loop-i.k < length c.loop-i.entries = omega arith in (
+            omega arith,
+            omega arith,
+            rw w.entries-is (simp length-set c.loop-i.invariant.2),
+            omega (arith, ap length one),
+            rw (w.entries-is, w.k-is, written_one, ← c.loop-i.invariant.4, one) refl,
+          )
+      | else-not-belongs w ↦ let none = those_by (λ d. not (belongs c.args.owner d)) c.args.completed c.args.n c.loop-i.i _ false (ap not (sym c.belongs.ensures ∙ w.if-not-belongs.false)) (omega arith) (omega arith) in (
+        omega arith,
+        omega arith,
+        rw w.entries-is c.loop-i.invariant.2,
+        omega (arith, ap length none),
+        rw (w.entries-is, w.k-is, ← c.loop-i.invariant.4, none) refl,
+      )
     ]
 
 pub returns : goal.returns

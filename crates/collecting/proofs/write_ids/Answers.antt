@@ -21,17 +21,17 @@ bounds-out-k c =
 pub loop-i-preserved : goal.loop-i-preserved
 loop-i-preserved c =
     elim c.if-belongs.branch [
-      then-belongs w ↦ let mine = sym c.belongs.ensures ∙ w.if-belongs.true in
-    let one = those_by (belongs c.args.owner) c.args.completed c.args.n c.loop-i.i _ true mine (omega arith) (omega arith) in
-    let more = count_by (belongs c.args.owner) c.args.completed c.args.n c.loop-i.i _ true mine (omega arith) (omega arith) in
-    let room : c.loop-i.k < length c.loop-i.out = omega arith in
-    let long : length c.if-belongs.out ≡ length c.loop-i.out = rw w.out-is (simp length-set) in
-    (omega arith, omega arith, omega arith, omega arith, rw (w.out-is, w.k-is, written_one, ← c.loop-i.invariant.4, one) refl)
-    | else-belongs w ↦ let other = sym c.belongs.ensures ∙ w.if-belongs.false in
-    let none = those_by (belongs c.args.owner) c.args.completed c.args.n c.loop-i.i _ false other (omega arith) (omega arith) in
-    let same = count_by (belongs c.args.owner) c.args.completed c.args.n c.loop-i.i _ false other (omega arith) (omega arith) in
-    let long : length c.if-belongs.out ≡ length c.loop-i.out = ap length w.out-is in
-    (omega arith, omega arith, omega arith, omega arith, rw (w.out-is, w.k-is, ← c.loop-i.invariant.4, none) refl)
+      | then-belongs w ↦ let mine = sym c.belongs.ensures ∙ w.if-belongs.true in
+          let one = those_by (belongs c.args.owner) c.args.completed c.args.n c.loop-i.i _ true mine (omega arith) (omega arith) in
+          let more = count_by (belongs c.args.owner) c.args.completed c.args.n c.loop-i.i _ true mine (omega arith) (omega arith) in
+          let room : c.loop-i.k < length c.loop-i.out = omega arith in
+          let long : length c.if-belongs.out ≡ length c.loop-i.out = rw w.out-is (simp length-set) in
+          (omega arith, omega arith, omega arith, omega arith, rw (w.out-is, w.k-is, written_one, ← c.loop-i.invariant.4, one) refl)
+      | else-belongs w ↦ let other = sym c.belongs.ensures ∙ w.if-belongs.false in
+          let none = those_by (belongs c.args.owner) c.args.completed c.args.n c.loop-i.i _ false other (omega arith) (omega arith) in
+          let same = count_by (belongs c.args.owner) c.args.completed c.args.n c.loop-i.i _ false other (omega arith) (omega arith) in
+          let long : length c.if-belongs.out ≡ length c.loop-i.out = ap length w.out-is in
+          (omega arith, omega arith, omega arith, omega arith, rw (w.out-is, w.k-is, ← c.loop-i.invariant.4, none) refl)
     ]
 
 pub shape_of-out : goal.shape_of-out

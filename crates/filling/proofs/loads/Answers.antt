@@ -27,8 +27,8 @@ pub loop-i-preserved : goal.loop-i-preserved
 unfolding own_path
 loop-i-preserved c =
     elim c.if-s.branch [
-      then-s w ↦ counting_on c.args.seats c.loop-i.load c.loop-i.i c.loop-i.invariant _ (omega arith) (omega arith) w.if-s.true _ (w.load-is ∙ w.raise.ensures)
-    | else-s w ↦ counting_past c.args.seats c.loop-i.load c.loop-i.i c.loop-i.invariant _ (omega arith) (omega arith) w.if-s.false _ w.load-is
+      | then-s w ↦ counting_on c.args.seats c.loop-i.load c.loop-i.i c.loop-i.invariant _ (omega arith) (omega arith) w.if-s.true _ (w.load-is ∙ w.raise.ensures)
+      | else-s w ↦ counting_past c.args.seats c.loop-i.load c.loop-i.i c.loop-i.invariant _ (omega arith) (omega arith) w.if-s.false _ w.load-is
     ]
 
 pub returns : goal.returns

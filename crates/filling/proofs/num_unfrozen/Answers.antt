@@ -13,8 +13,8 @@ pub loop-i-preserved : goal.loop-i-preserved
 loop-i-preserved c =
     let at = count_by (λ (s : Seat). s.unfrozen) c.args.seats c.loop-i.i _ in
     elim c.if-s.branch [
-      then-s w ↦ omega (arith, at true w.if-s.true (omega arith))
-    | else-s w ↦ omega (arith, at false w.if-s.false (omega arith))
+      | then-s w ↦ omega (arith, at true w.if-s.true (omega arith))
+      | else-s w ↦ omega (arith, at false w.if-s.false (omega arith))
     ]
 
 pub returns : goal.returns

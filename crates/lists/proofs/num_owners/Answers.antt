@@ -18,10 +18,10 @@ comes_again-requires c = record { n_bound = omega arith; i_lt_n = omega arith; i
 pub loop-i-preserved : goal.loop-i-preserved
 loop-i-preserved c =
     elim c.if-not-comes_again.branch [
-      then-not-comes_again w ↦ let one = owners_by c.args.completed c.args.n c.loop-i.i blank_completion false (sym c.comes_again.ensures ∙ w.if-not-comes_again.true) (omega arith) (omega arith) in
-    (omega arith, omega (arith, w.found-is), omega (arith, w.found-is, ap length one))
-    | else-not-comes_again w ↦ let none = owners_by c.args.completed c.args.n c.loop-i.i blank_completion true (sym c.comes_again.ensures ∙ w.if-not-comes_again.false) (omega arith) (omega arith) in
-    (omega arith, omega (arith, w.found-is), omega (arith, w.found-is, ap length none))
+      | then-not-comes_again w ↦ let one = owners_by c.args.completed c.args.n c.loop-i.i blank_completion false (sym c.comes_again.ensures ∙ w.if-not-comes_again.true) (omega arith) (omega arith) in
+          (omega arith, omega (arith, w.found-is), omega (arith, w.found-is, ap length one))
+      | else-not-comes_again w ↦ let none = owners_by c.args.completed c.args.n c.loop-i.i blank_completion true (sym c.comes_again.ensures ∙ w.if-not-comes_again.false) (omega arith) (omega arith) in
+          (omega arith, omega (arith, w.found-is), omega (arith, w.found-is, ap length none))
     ]
 
 pub returns : goal.returns

@@ -34,21 +34,21 @@ pub loop-i-preserved : goal.loop-i-preserved
 unfolding pairs
 loop-i-preserved c =
     elim c.if-not-comes_again.branch [
-      then-not-comes_again w ↦ let one = owners_by c.args.completed c.args.n c.loop-i.i past_end false (rw (get_d_any c.args.completed c.loop-i.i past_end blank_completion (omega arith)) (sym c.comes_again.ensures ∙ w.if-not-comes_again.true)) (omega arith) (omega arith) in
-    let room : c.loop-i.k + 1 < length c.loop-i.out = omega (arith, ap length one) in (
-      omega arith,
-      omega (arith, w.k-is),
-      rw w.out-is (simp length-set c.loop-i.invariant.2),
-      rw w.out-is (simp length-set (omega (arith, w.k-is, ap length one))),
-      rw (w.out-is, w.k-is, written_two, ← c.loop-i.invariant.4, one, ← w.owner_kind-kind.ensures, ← w.owner_worker-worker.ensures) refl,
-    )
-    | else-not-comes_again w ↦ let none = owners_by c.args.completed c.args.n c.loop-i.i blank_completion true (sym c.comes_again.ensures ∙ w.if-not-comes_again.false) (omega arith) (omega arith) in (
-      omega arith,
-      omega (arith, w.k-is),
-      rw w.out-is c.loop-i.invariant.2,
-      rw w.out-is (omega (arith, w.k-is, ap length none)),
-      rw (w.out-is, w.k-is, ← c.loop-i.invariant.4, none) refl,
-    )
+      | then-not-comes_again w ↦ let one = owners_by c.args.completed c.args.n c.loop-i.i past_end false (rw (get_d_any c.args.completed c.loop-i.i past_end blank_completion (omega arith)) (sym c.comes_again.ensures ∙ w.if-not-comes_again.true)) (omega arith) (omega arith) in
+          let room : c.loop-i.k + 1 < length c.loop-i.out = omega (arith, ap length one) in (
+            omega arith,
+            omega (arith, w.k-is),
+            rw w.out-is (simp length-set c.loop-i.invariant.2),
+            rw w.out-is (simp length-set (omega (arith, w.k-is, ap length one))),
+            rw (w.out-is, w.k-is, written_two, ← c.loop-i.invariant.4, one, ← w.owner_kind-kind.ensures, ← w.owner_worker-worker.ensures) refl,
+          )
+      | else-not-comes_again w ↦ let none = owners_by c.args.completed c.args.n c.loop-i.i blank_completion true (sym c.comes_again.ensures ∙ w.if-not-comes_again.false) (omega arith) (omega arith) in (
+        omega arith,
+        omega (arith, w.k-is),
+        rw w.out-is c.loop-i.invariant.2,
+        rw w.out-is (omega (arith, w.k-is, ap length none)),
+        rw (w.out-is, w.k-is, ← c.loop-i.invariant.4, none) refl,
+      )
     ]
 
 pub shape_of-out : goal.shape_of-out

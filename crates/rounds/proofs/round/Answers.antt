@@ -34,8 +34,8 @@ loop-i-preserved c =
     let is : (b : Bool) → c.freeze-s.result.unfrozen ≡ b → c.if-s.unfrozen ≡ c.loop-i.unfrozen + cond b 1 0 → c.if-s.unfrozen ≡ c.loop-i.unfrozen + cond c.freeze-s.result.unfrozen 1 0 = λ b u e. e ∙ ap (λ (z : Bool). c.loop-i.unfrozen + cond z 1 0) (sym u) in
     freezing_one c.args.v c.args.f.seats c.requires.standing.places c.args.f.residual c.loop-i.after.seats c.loop-i.residual c.loop-i.load c.loop-i.unfrozen c.loop-i.i c.loop-i.invariant _ c.loop-i-test.true _ c.freeze-s.ensures.residual _ c.freeze-s.ensures.load c.freeze-s.result c.if-s.unfrozen c.freeze-s.ensures.seat
     (elim c.if-s.branch [
-      then-s w ↦ is true w.if-s.true w.unfrozen-is
-    | else-s w ↦ is false w.if-s.false (omega (arith, w.unfrozen-is))
+      | then-s w ↦ is true w.if-s.true w.unfrozen-is
+      | else-s w ↦ is false w.if-s.false (omega (arith, w.unfrozen-is))
     ])
 
 pub overflow_add-after : goal.overflow_add-after

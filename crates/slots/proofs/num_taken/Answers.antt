@@ -33,8 +33,8 @@ loop-i-preserved c =
     let slots : List Transfer = c.args.in_flight in
     let i : ℕ = c.loop-i.i in
     elim c.if-t.branch [
-      then-t w ↦ omega (arith, count_by (λ t. t.taken) slots i _ _ w.if-t.true (omega arith))
-    | else-t w ↦ omega (arith, count_by (λ t. t.taken) slots i _ _ w.if-t.false (omega arith))
+      | then-t w ↦ omega (arith, count_by (λ t. t.taken) slots i _ _ w.if-t.true (omega arith))
+      | else-t w ↦ omega (arith, count_by (λ t. t.taken) slots i _ _ w.if-t.false (omega arith))
     ]
 
 pub returns : goal.returns

@@ -7,7 +7,7 @@ pub returns : goal.returns
 unfolding on_tally with_totals
 returns c =
     elim c.match-owner.branch [
-      in-Worker w ↦ rw (w.totals-is, w.in-Worker.is)
-    | in-Handoff w ↦ rw (w.totals-is, w.in-Handoff.is)
-    | in-Write w ↦ rw (w.totals-is, w.in-Write.is)
+      | in-Worker w ↦ rw (w.totals-is, w.in-Worker.is)
+      | in-Handoff w ↦ rw (w.totals-is, w.in-Handoff.is)
+      | in-Write w ↦ rw (w.totals-is, w.in-Write.is)
     ]
