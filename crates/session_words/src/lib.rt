@@ -1,5 +1,6 @@
 // The words of a script's line, and the line while its bytes come in.
 #![tactic(auto)]
+
 mod line;
 
 ghost use Rattle.std.specs.Prelude.{◌+◌, ◌≤◌, min, ◌≡◌, length, drop};
