@@ -1,5 +1,6 @@
 // Text put on a page: a buffer that its owner writes out whenever it is nearly full. Each function answers the place behind what it put.
 #![tactic(auto)]
+
 ghost use Rattle.std.specs.Prelude.{◌≡◌, ◌+◌, ◌-◌, ◌<◌, ◌≤◌, length};
 ghost use Rattle.io.specs.Digits.{last_digits, IsDigitCount};
 ghost use Rattle.doubles.specs.Doubles.{bits_of};

@@ -25,3 +25,8 @@ next_word line at =
 -- The bytes of a word.
 unfoldable pub bytes_of : List ℕ → Word → List ℕ
 bytes_of line w = take (w.end - w.start) (drop w.start line)
+
+-- Where a byte first stands; the length where it stands nowhere.
+unfoldable pub index_of : ℕ → List ℕ → ℕ
+index_of b [] = 0
+index_of b (x ∷ bytes) = cond (eqb x b) 0 (suc (index_of b bytes))

@@ -4,7 +4,7 @@
 mod line;
 
 ghost use Rattle.std.specs.Prelude.{◌+◌, ◌≤◌, min, ◌≡◌, length, drop};
-ghost use Rattle.session_words.specs.Words.{run};
+ghost use Rattle.session_words.specs.Words.{run, index_of};
 ghost use Rattle.session_words.specs.Words.{is_blank as blank, stops as the_end, next_word as the_next_word};
 
 pub use line::Line;
@@ -69,4 +69,20 @@ pub fn is_blank(b: u8) -> bool
     } else {
         b == 12
     }
+}
+
+// The first place at or behind one where a byte stands, and the end where it stands nowhere.
+pub fn find(bytes: &[u8], from: usize, b: u8) -> usize
+    requires { from ≤ length bytes.now }
+    ensures exactly { result ≡ from + index_of b (drop from bytes.now) }
+    ensures within { (from ≤ result) × (result ≤ length bytes.now) }
+{
+    let mut i = from;
+    while i < bytes.len() {
+        if bytes[i] == b {
+            return i;
+        }
+        i += 1;
+    }
+    i
 }
