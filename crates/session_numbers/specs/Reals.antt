@@ -2,7 +2,7 @@
 use Rattle.std.specs.Prelude.{ℕ, ◌+◌, ◌-◌, ◌^◌, cond, ltb, eqb, length, take, drop, get_or}
 use mathlib.Core.List.{List, foldl}
 use Rattle.std.specs.Float.Ieee.{neg}
-use Rattle.bytes.specs.Bytes.{index_of}
+use Rattle.session_words.specs.Words.{index_of}
 use Rattle.doubles.specs.Doubles.{whole, of_bits, ◌⊘◌}
 use Rattle.session_numbers.specs.declared.Number.{Number}
 use Rattle.session_numbers.specs.declared.Number.TheVariants.{Whole, NoNumber}

@@ -1,5 +1,6 @@
 // The numbers that a script's words spell, whole ones and doubles. Nothing here knows what is simulated.
 #![tactic(auto)]
+
 ghost use Rattle.std.specs.Prelude.{◌≡◌, ◌^◌, ◌<◌, ◌≤◌};
 ghost use mathlib.Core.List.{foldl};
 ghost use Rattle.session_numbers.specs.Numbers.{more, number_of};
@@ -148,7 +149,7 @@ fn unsigned(word: &[u8]) -> Double
     if 16 < word.len() {
         return Double::NoDouble;
     }
-    let point = bytes::scan::find(word, 0, word.len(), b'.');
+    let point = session_words::find(word, 0, b'.');
     if point == word.len() {
         return fraction(spelled(word, 10), word.len(), 0);
     }

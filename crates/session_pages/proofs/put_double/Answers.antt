@@ -1,5 +1,4 @@
 -- `script::page::put_double` meets its contract: what is put are the double's bits. Assumes nothing.
-use Rattle.std.proofs.Common.{rules}
 use Rattle.session_pages.proofs.put_double.Goals as goal
 
 pub returns : goal.returns
