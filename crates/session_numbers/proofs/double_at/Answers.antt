@@ -1,7 +1,6 @@
 -- `double_at` meets its contract: the slice is the word's bytes. Assumes nothing.
 use Rattle.session_words.specs.Words.{bytes_of}
 use Rattle.session_numbers.specs.Next.{real_to, real_in}
-use borrow.Author.Rules.{rules}
 use Rattle.session_numbers.proofs.double_at.Goals as goal
 
 pub returns-in_default : goal.returns-in_default

@@ -1,7 +1,6 @@
 -- `read_double` meets its contract: the tests are the definition's. Assumes nothing.
 use borrow.Author.Tests.{eq-eqb, ne_eqb}
 use Rattle.session_numbers.specs.Reals.{double_of, bits_or}
-use borrow.Author.Rules.{rules}
 use Rattle.session_numbers.proofs.read_double.Goals as goal
 
 pub returns-then-word-ne16 : goal.returns-then-word-ne16

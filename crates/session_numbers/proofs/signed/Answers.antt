@@ -3,7 +3,6 @@ use lib.ListN.{get_or}
 use borrow.Author.Tests.{eq-eqb, ne_eqb}
 use Rattle.session_numbers.specs.Reals.{signed_of, negated}
 use Rattle.session_numbers.proofs.Rest.{rest}
-use borrow.Author.Rules.{rules}
 use Rattle.session_numbers.proofs.signed.Goals as goal
 
 pub returns-then-word-eq0 : goal.returns-then-word-eq0
