@@ -1,10 +1,11 @@
 // The fields that answers and dumps are made of, most with a blank in front, and the page that they gather on.
 #![tactic(auto)]
+
 mod page;
 
 ghost use Rattle.std.specs.Prelude.{◌+◌, ◌≤◌, length};
 
-pub use page::{room, write_out};
+pub use page::{fail, room, write_out};
 use rules::{Limit, Owner, Tally};
 use session_pages::{put_double, put_number, put_text};
 

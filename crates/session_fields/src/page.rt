@@ -1,32 +1,46 @@
 // The page that answers gather on, so that many lines are one write.
 ghost use Rattle.std.specs.Prelude.{◌≤◌, ◌≡◌, length};
 
-use libc::STDOUT_FILENO;
+use std::io;
 
 // Where the next line may begin: every line has 16,384 bytes of room.
-pub fn room(page: &mut [u8; 65536], at: usize) -> usize
+pub fn room<R: Print + Eprint + Alloc>(rt: &R, page: &mut [u8; 65536], at: usize) -> usize
     requires { at ≤ 65536 }
     ensures { result ≤ 49152 }
 {
     if at <= 49152 {
         return at;
     }
-    write_out(page, at)
+    write_out(rt, page, at)
 }
 
 // Writes out what stands before a place. The page is free again from its start, which is the answer.
-pub fn write_out(page: &[u8; 65536], at: usize) -> usize
+pub fn write_out<R: Print + Eprint + Alloc>(rt: &R, page: &[u8; 65536], at: usize) -> usize
     requires { at ≤ 65536 }
     ensures { result ≡ 0 }
 {
-    write_front(page, at);
+    write_front(rt, page, at);
     0
 }
 
-fn write_front(page: &[u8], at: usize)
+fn write_front<R: Print + Eprint + Alloc>(rt: &R, page: &[u8], at: usize)
     requires { at ≤ length page.now }
 {
-    if !io::write_all(STDOUT_FILENO, &page[..at]) {
-        os::fail(b"standard output");
+    if let Err(error) = rt.write_all(&page[..at]) {
+        fail(rt, "standard output", error);
+    }
+}
+
+// A line on standard error: what failed, as the caller names it, and why. Where that cannot be written either, nothing is left to tell it to.
+pub fn fail<R: Eprint + Alloc>(rt: &R, what: &str, error: io::Error) {
+    let _ = told(rt, what, error);
+}
+
+// Why, in the system's own words: what std puts behind them is left out.
+fn told<R: Eprint + Alloc>(rt: &R, what: &str, error: io::Error) -> io::Result<()> {
+    let why = format!(in rt.alloc(); "{error}")?;
+    match why.as_str().split_once(" (os error ") {
+        Some((words, _)) => eprintln!(rt; "{what}: {words}"),
+        None => eprintln!(rt; "{what}: {why}"),
     }
 }

@@ -1,83 +1,92 @@
 // Runs the helpers of `doubles` on a table of bit patterns and prints what they answer, to be held against the answers of Rust.
 // A line of the table has nineteen bytes: a letter, a space, sixteen hexadecimal digits and the line's end.
 #![tactic(auto)]
-ghost use Rattle.std.specs.Prelude.{◌+◌, ◌≤◌, ◌<◌, length};
 
-fn main() {
-    let mut buf = io::large_buffer();
-    let n = io::read_full(0, &mut buf);
-    show_lines(&buf[..n], b'b', 0);
-    show_pairs(&buf[..n]);
-    show_lines(&buf[..n], b'w', 0);
+ghost use Rattle.std.specs.Prelude.{◌+◌, ◌≤◌, ◌<◌, length, IfOk};
+
+use std::io;
+use std::io::Read;
+
+fn main(rt: HostRuntime) -> io::Result<()> {
+    let mut buf = [0u8; 65536];
+    let n = read_full(&mut rt.stdin(), &mut buf)?;
+    show_lines(&rt, &buf[..n], b'b', 0)?;
+    show_pairs(&rt, &buf[..n])?;
+    show_lines(&rt, &buf[..n], b'w', 0)
+}
+
+// Reads until the buffer is full or the input ends, and answers how many bytes stand at its start.
+fn read_full<R: Read>(input: &mut R, buf: &mut [u8]) -> io::Result<usize>
+    ensures { IfOk result (λ n. n ≤ length buf.new) }
+{
+    let mut done = 0;
+    while done < buf.len() {
+        let n = input.read(&mut buf[done..])?;
+        if n == 0 {
+            return Ok(done);
+        }
+        done += n;
+    }
+    Ok(done)
 }
 
 // Every member beside every member, so that both orders of two are tried.
-fn show_pairs(text: &[u8]) {
+fn show_pairs(rt: &impl Print, text: &[u8]) -> io::Result<()> {
     let lines = text.len() / 19;
     let mut k = 0;
     while k < lines {
         let at = k * 19;
         if text[at] == b'p' {
-            show_lines(text, b'p', number(text, at + 2));
+            show_lines(rt, text, b'p', number(text, at + 2))?;
         }
         k += 1;
     }
+    Ok(())
 }
 
 // The lines that begin with the letter, in order: one file feeds all the lists.
-fn show_lines(text: &[u8], letter: u8, first: u64) {
+fn show_lines(rt: &impl Print, text: &[u8], letter: u8, first: u64) -> io::Result<()> {
     let lines = text.len() / 19;
     let mut k = 0;
     while k < lines {
         let at = k * 19;
         if text[at] == letter {
-            show(letter, first, number(text, at + 2));
+            show(rt, letter, first, number(text, at + 2))?;
         }
         k += 1;
     }
+    Ok(())
 }
 
-fn show(letter: u8, first: u64, value: u64) {
+fn show(rt: &impl Print, letter: u8, first: u64, value: u64) -> io::Result<()> {
     if letter == b'b' {
-        show_pattern(value);
+        show_pattern(rt, value)
     } else if letter == b'p' {
-        show_pair(first, value);
+        show_pair(rt, first, value)
     } else {
-        show_count(value);
+        show_count(rt, value)
     }
 }
 
-fn show_pattern(pattern: u64) {
+fn show_pattern(rt: &impl Print, pattern: u64) -> io::Result<()> {
     let x = doubles::of_bits(pattern);
-    io::write_all(1, b"bits ");
-    io::print_hex(1, doubles::bits_of(x), 16);
-    io::write_all(1, b" finite ");
-    io::print_decimal(1, doubles::is_finite(x) as u64);
-    io::write_all(1, b" zero_read ");
-    io::print_hex(1, doubles::bits_of(doubles::read_zero(x)), 16);
-    io::write_all(1, b"\n");
+    let bits = doubles::bits_of(x);
+    let finite = doubles::is_finite(x) as u64;
+    let zero_read = doubles::bits_of(doubles::read_zero(x));
+    println!(rt; "bits {bits:016x} finite {finite} zero_read {zero_read:016x}")
 }
 
-fn show_pair(first: u64, second: u64) {
+fn show_pair(rt: &impl Print, first: u64, second: u64) -> io::Result<()> {
     let x = doubles::of_bits(first);
     let y = doubles::of_bits(second);
-    io::write_all(1, b"pair ");
-    io::print_hex(1, first, 16);
-    io::write_all(1, b" ");
-    io::print_hex(1, second, 16);
-    io::write_all(1, b" min ");
-    io::print_hex(1, doubles::bits_of(doubles::smaller(x, y)), 16);
-    io::write_all(1, b" max ");
-    io::print_hex(1, doubles::bits_of(doubles::larger(x, y)), 16);
-    io::write_all(1, b"\n");
+    let min = doubles::bits_of(doubles::smaller(x, y));
+    let max = doubles::bits_of(doubles::larger(x, y));
+    println!(rt; "pair {first:016x} {second:016x} min {min:016x} max {max:016x}")
 }
 
-fn show_count(count: u64) {
-    io::write_all(1, b"whole ");
-    io::print_decimal(1, count);
-    io::write_all(1, b" ");
-    io::print_hex(1, doubles::bits_of(doubles::whole(count)), 16);
-    io::write_all(1, b"\n");
+fn show_count(rt: &impl Print, count: u64) -> io::Result<()> {
+    let bits = doubles::bits_of(doubles::whole(count));
+    println!(rt; "whole {count} {bits:016x}")
 }
 
 // The sixteen hexadecimal digits from `from` on. The remainder keeps the sum within a u64, and loses nothing before the sixteenth digit.
