@@ -1,5 +1,6 @@
 // A line of the script as a request. Whatever the format does not allow is malformed.
 #![tactic(auto)]
+
 ghost use Rattle.std.specs.Prelude.{◌≤◌, length};
 ghost use Rattle.session_asked.specs.Request.{Within};
 
