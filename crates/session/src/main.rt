@@ -1,17 +1,21 @@
 // Reads a script of calls, from the file that its argument names or from standard input, makes each on the simulator and prints the answers.
 #![tactic(auto)]
+
 ghost use Rattle.std.specs.Prelude.{◌≤◌, ◌≡◌, cond, length};
 ghost use Rattle.rules.specs.Refusals.{not_a_floor};
 ghost use Rattle.rules.specs.Floors.{with_floor};
 ghost use Rattle.rules.specs.Histories.{call as the_call};
 ghost use Rattle.rules.specs.Invariant.{Invariant};
 
-use libc::STDIN_FILENO;
 use rules::{Answer, Call, Flows};
 use session_asked::Ask;
 use session_fields::named;
 use session_pages::put_text;
 use session_words::Line;
+use std::env::{Env, FillError};
+use std::io::{ErrorKind, Read};
+use std::rt::Files;
+use std::{fs, io};
 
 // The simulator, and where the next answer goes on the page.
 #[derive(Clone, Copy)]
@@ -29,28 +33,34 @@ struct Between {
     more: bool,
 }
 
-fn main() {
-    if os::arg_count() < 2 {
-        run_script(STDIN_FILENO, b"standard input");
-        return;
+fn main(rt: HostRuntime) {
+    let mut name = [0u8; 4096];
+    match rt.arg(1, &mut name) {
+        Ok(length) => run_file(&rt, &name[..length]),
+        Err(FillError::NotPresent) => run_script(&rt, &mut rt.stdin(), "standard input"),
+        Err(FillError::TooLong) => {
+            let _ = eprintln!(rt; "script: File name too long");
+        }
     }
-    let mut name = io::buffer();
-    let length = os::arg(1, &mut name);
-    if os::errno() != 0 {
-        os::fail(b"script");
+}
+
+// A name that is no text names no file for the library, so that it is refused here.
+fn run_file<R: Print + Eprint + Alloc + Files>(rt: &R, name: &[u8]) {
+    let Ok(path) = std::str::from_utf8(name) else {
+        session_fields::fail(rt, "script", io::Error::from(ErrorKind::InvalidFilename));
         return;
+    };
+    match fs::open(rt, path) {
+        Ok(file) => {
+            let mut file = file;
+            run_script(rt, &mut file, path);
+        }
+        Err(error) => session_fields::fail(rt, path, error),
     }
-    let fd = os::open_read(&name[..length]);
-    if fd < 0 {
-        os::fail(&name[..length]);
-        return;
-    }
-    run_script(fd, &name[..length]);
-    libc::close(fd);
 }
 
 // A proved loop has to end, and nothing says that a script does, so the turns are counted down from a number that no run uses up.
-fn run_script(fd: i32, name: &[u8]) {
+fn run_script<R: Print + Eprint + Alloc, I: Read>(rt: &R, input: &mut I, name: &str) {
     let mut text = [0u8; 4096];
     let mut page = [0u8; 65536];
     let flows = Flows::new();
@@ -63,21 +73,22 @@ fn run_script(fd: i32, name: &[u8]) {
     };
     let mut turns = u64::MAX;
     while turns > 0 && now.more {
-        let next = chunk(now, fd, name, &mut text, &mut page);
+        let next = chunk(rt, now, input, name, &mut text, &mut page);
         now = next;
         turns -= 1;
     }
     let flows = now.flows;
     let line = now.line;
-    let last = ended(flows, line, &text, &mut page, 0);
-    session_fields::write_out(&page, last.at);
+    let last = ended(rt, flows, line, &text, &mut page, 0);
+    session_fields::write_out(rt, &page, last.at);
 }
 
 // Reads once, answers every line that ends in what was read, and writes the answers out before it is waited for more.
-fn chunk(
+fn chunk<R: Print + Eprint + Alloc, I: Read>(
+    rt: &R,
     now: Between,
-    fd: i32,
-    name: &[u8],
+    input: &mut I,
+    name: &str,
     text: &mut [u8; 4096],
     page: &mut [u8; 65536],
 ) -> Between
@@ -86,12 +97,8 @@ fn chunk(
     ensures invariant_2 { Invariant result.flows }
     ensures len_bound_2 { result.line.len ≤ 4096 }
 {
-    let mut buffer = io::large_buffer();
-    let got = libc::read(fd, &mut buffer);
-    if got < 0 {
-        os::fail(name);
-    }
-    let n = io::count(got, &buffer);
+    let mut buffer = [0u8; 65536];
+    let n = read_some(rt, input, name, &mut buffer);
     if n == 0 {
         let flows = now.flows;
         let line = now.line;
@@ -103,7 +110,25 @@ fn chunk(
         };
     }
     let start = unmarked(&buffer[..n], now.begun);
-    lines(now, &buffer[start..n], text, page)
+    lines(rt, now, &buffer[start..n], text, page)
+}
+
+// How many bytes a read put at the buffer's start. One that fails is told of, and counts as the end.
+fn read_some<R: Eprint + Alloc, I: Read>(
+    rt: &R,
+    input: &mut I,
+    name: &str,
+    buffer: &mut [u8; 65536],
+) -> usize
+    ensures { result ≤ 65536 }
+{
+    match input.read(buffer) {
+        Ok(n) => n,
+        Err(error) => {
+            session_fields::fail(rt, name, error);
+            0
+        }
+    }
 }
 
 // Where the text starts: behind a byte order mark, where the very first bytes are one.
@@ -122,7 +147,13 @@ fn unmarked(bytes: &[u8], begun: bool) -> usize
     0
 }
 
-fn lines(now: Between, bytes: &[u8], text: &mut [u8; 4096], page: &mut [u8; 65536]) -> Between
+fn lines<R: Print + Eprint + Alloc>(
+    rt: &R,
+    now: Between,
+    bytes: &[u8],
+    text: &mut [u8; 4096],
+    page: &mut [u8; 65536],
+) -> Between
     requires invariant { Invariant now.flows }
     requires len_bound { now.line.len ≤ 4096 }
     ensures invariant_2 { Invariant result.flows }
@@ -133,20 +164,20 @@ fn lines(now: Between, bytes: &[u8], text: &mut [u8; 4096], page: &mut [u8; 6553
     let mut at = 0;
     let mut i = 0;
     while i < bytes.len() {
-        let end = bytes::scan::find(bytes, i, bytes.len(), b'\n');
+        let end = session_words::find(bytes, i, b'\n');
         let whole = gathered(line, &bytes[i..end], text);
         line = whole;
         if end == bytes.len() {
             break;
         }
         let start = end + 1;
-        let next = ended(flows, line, text, page, at);
+        let next = ended(rt, flows, line, text, page, at);
         flows = next.flows;
         at = next.at;
         line = Line::new();
         i = start;
     }
-    session_fields::write_out(page, at);
+    session_fields::write_out(rt, page, at);
     Between {
         flows,
         line,
@@ -171,7 +202,14 @@ fn gathered(line: Line, bytes: &[u8], text: &mut [u8; 4096]) -> Line
 }
 
 // A line that has ended: it is skipped where it is blank, and answered otherwise.
-fn ended(flows: Flows, line: Line, text: &[u8; 4096], page: &mut [u8; 65536], at: usize) -> Next
+fn ended<R: Print + Eprint + Alloc>(
+    rt: &R,
+    flows: Flows,
+    line: Line,
+    text: &[u8; 4096],
+    page: &mut [u8; 65536],
+    at: usize,
+) -> Next
     requires invariant { Invariant flows }
     requires len_bound { (line.len ≤ 4096) × (at ≤ 65536) }
     ensures invariant_2 { Invariant result.flows }
@@ -181,16 +219,23 @@ fn ended(flows: Flows, line: Line, text: &[u8; 4096], page: &mut [u8; 65536], at
     if len == 0 {
         return Next { flows, at };
     }
-    let at = session_fields::room(page, at);
+    let at = session_fields::room(rt, page, at);
     if line.long {
         let at = put_text(page, at, b"malformed\n");
         return Next { flows, at };
     }
-    answered(flows, text, len, page, at)
+    answered(rt, flows, text, len, page, at)
 }
 
 // A line that stands at the start of its buffer.
-fn answered(flows: Flows, text: &[u8], len: usize, page: &mut [u8; 65536], at: usize) -> Next
+fn answered<R: Print + Eprint + Alloc>(
+    rt: &R,
+    flows: Flows,
+    text: &[u8],
+    len: usize,
+    page: &mut [u8; 65536],
+    at: usize,
+) -> Next
     requires invariant { Invariant flows }
     requires len_in_bounds { (len ≤ length text.now) × (at ≤ 49152) }
     ensures invariant_2 { Invariant result.flows }
@@ -217,7 +262,7 @@ fn answered(flows: Flows, text: &[u8], len: usize, page: &mut [u8; 65536], at: u
             made(flows, call, &path[..hops], &mut lent[..places], page, at)
         }
         Ask::RunUntil(time) => {
-            let walked = session_stepping::run_until(flows, time, page, at);
+            let walked = session_stepping::run_until(rt, flows, time, page, at);
             let flows = walked.flows;
             Next {
                 flows,
@@ -225,7 +270,7 @@ fn answered(flows: Flows, text: &[u8], len: usize, page: &mut [u8; 65536], at: u
             }
         }
         Ask::Finish => {
-            let walked = session_stepping::finish(flows, page, at);
+            let walked = session_stepping::finish(rt, flows, page, at);
             let flows = walked.flows;
             Next {
                 flows,
@@ -233,7 +278,7 @@ fn answered(flows: Flows, text: &[u8], len: usize, page: &mut [u8; 65536], at: u
             }
         }
         Ask::See(look) => {
-            let at = session_told::look(flows, look, page, at);
+            let at = session_told::look(rt, flows, look, page, at);
             Next { flows, at }
         }
     }

@@ -1,5 +1,6 @@
 // The whole state as text. Nothing is filled or drained for it.
 #![tactic(auto)]
+
 ghost use Rattle.std.specs.Prelude.{◌+◌, ◌≤◌};
 ghost use Rattle.rules.specs.Invariant.{Invariant};
 
@@ -11,7 +12,12 @@ use session_fields::{
 };
 use session_pages::put_text;
 
-pub fn dump(flows: Flows, page: &mut [u8; 65536], at: usize) -> usize
+pub fn dump<R: Print + Eprint + Alloc>(
+    rt: &R,
+    flows: Flows,
+    page: &mut [u8; 65536],
+    at: usize,
+) -> usize
     requires invariant { Invariant flows }
     requires at_bound { at ≤ 49152 }
     ensures { result ≤ 65536 }
@@ -23,10 +29,10 @@ pub fn dump(flows: Flows, page: &mut [u8; 65536], at: usize) -> usize
     let next = sizes(page, next, flows);
     let next = floor_and_drain(page, next, tolerance, clock);
     let next = kinds(page, next, totals);
-    let next = edges(page, next, flows);
-    let next = slots(page, next, flows);
-    let next = queue(page, next, flows);
-    let next = room(page, next);
+    let next = edges(rt, page, next, flows);
+    let next = slots(rt, page, next, flows);
+    let next = queue(rt, page, next, flows);
+    let next = room(rt, page, next);
     put_text(page, next, b"end\n")
 }
 
@@ -98,7 +104,12 @@ fn kind(page: &mut [u8; 65536], at: usize, name: &[u8; 6], counted: Tally) -> us
     put_text(page, next, b"\n")
 }
 
-fn edges(page: &mut [u8; 65536], at: usize, flows: Flows) -> usize
+fn edges<R: Print + Eprint + Alloc>(
+    rt: &R,
+    page: &mut [u8; 65536],
+    at: usize,
+    flows: Flows,
+) -> usize
     requires invariant { Invariant flows }
     requires at_bound { at ≤ 65536 }
     ensures { result ≤ 65536 }
@@ -107,18 +118,24 @@ fn edges(page: &mut [u8; 65536], at: usize, flows: Flows) -> usize
     let mut next = at;
     let mut i = 0;
     while i < count {
-        let behind = edge_line(page, next, i, flows.edges[i]);
+        let behind = edge_line(rt, page, next, i, flows.edges[i]);
         next = behind;
         i += 1;
     }
     next
 }
 
-fn edge_line(page: &mut [u8; 65536], at: usize, number: usize, edge: Edge) -> usize
+fn edge_line<R: Print + Eprint + Alloc>(
+    rt: &R,
+    page: &mut [u8; 65536],
+    at: usize,
+    number: usize,
+    edge: Edge,
+) -> usize
     requires { at ≤ 65536 }
     ensures { result ≤ 65536 }
 {
-    let next = room(page, at);
+    let next = room(rt, page, at);
     let next = named(page, next, b"edge", number as u64);
     let next = spaced_double(page, next, edge.capacity);
     let next = spaced_double(page, next, edge.bytes_moved);
@@ -128,14 +145,19 @@ fn edge_line(page: &mut [u8; 65536], at: usize, number: usize, edge: Edge) -> us
 
 // ---- slots, the queue
 
-fn slots(page: &mut [u8; 65536], at: usize, flows: Flows) -> usize
+fn slots<R: Print + Eprint + Alloc>(
+    rt: &R,
+    page: &mut [u8; 65536],
+    at: usize,
+    flows: Flows,
+) -> usize
     requires { at ≤ 65536 }
     ensures { result ≤ 65536 }
 {
     let mut next = at;
     let mut i = 0;
     while i < 256 {
-        let behind = slot(page, next, i, flows.in_flight[i]);
+        let behind = slot(rt, page, next, i, flows.in_flight[i]);
         next = behind;
         i += 1;
     }
@@ -143,7 +165,13 @@ fn slots(page: &mut [u8; 65536], at: usize, flows: Flows) -> usize
 }
 
 // A line for a taken slot, and nothing for a free one.
-fn slot(page: &mut [u8; 65536], at: usize, number: usize, t: Transfer) -> usize
+fn slot<R: Print + Eprint + Alloc>(
+    rt: &R,
+    page: &mut [u8; 65536],
+    at: usize,
+    number: usize,
+    t: Transfer,
+) -> usize
     requires { at ≤ 65536 }
     ensures { result ≤ 65536 }
 {
@@ -153,7 +181,7 @@ fn slot(page: &mut [u8; 65536], at: usize, number: usize, t: Transfer) -> usize
     let owner = t.owner;
     let path = t.path;
     let limit = t.limit;
-    let next = room(page, at);
+    let next = room(rt, page, at);
     let next = named(page, next, b"slot", number as u64);
     let next = spaced_short(page, next, t.id);
     let next = spaced_owner(page, next, owner);
@@ -223,7 +251,12 @@ fn hop(page: &mut [u8; 65536], at: usize, used: bool, edge: usize) -> usize
     at
 }
 
-fn queue(page: &mut [u8; 65536], at: usize, flows: Flows) -> usize
+fn queue<R: Print + Eprint + Alloc>(
+    rt: &R,
+    page: &mut [u8; 65536],
+    at: usize,
+    flows: Flows,
+) -> usize
     requires invariant { Invariant flows }
     requires at_bound { at ≤ 65536 }
     ensures { result ≤ 65536 }
@@ -232,19 +265,24 @@ fn queue(page: &mut [u8; 65536], at: usize, flows: Flows) -> usize
     let mut next = at;
     let mut i = 0;
     while i < count {
-        let behind = queued(page, next, flows.completed[i]);
+        let behind = queued(rt, page, next, flows.completed[i]);
         next = behind;
         i += 1;
     }
     next
 }
 
-fn queued(page: &mut [u8; 65536], at: usize, entry: Completion) -> usize
+fn queued<R: Print + Eprint + Alloc>(
+    rt: &R,
+    page: &mut [u8; 65536],
+    at: usize,
+    entry: Completion,
+) -> usize
     requires { at ≤ 65536 }
     ensures { result ≤ 65536 }
 {
     let owner = entry.owner;
-    let next = room(page, at);
+    let next = room(rt, page, at);
     let next = put_text(page, next, b"queued");
     let next = spaced_owner(page, next, owner);
     let next = spaced_short(page, next, entry.id);

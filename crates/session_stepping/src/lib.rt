@@ -1,5 +1,6 @@
 // The words of a script that go from completion to completion: each step asks for the delay and advances by it, so that whoever is done gives up its share at once.
 #![tactic(auto)]
+
 ghost use Rattle.std.specs.Prelude.{◌≤◌, length};
 ghost use Rattle.rules.specs.Invariant.{Invariant};
 
@@ -27,7 +28,13 @@ struct Walk {
 // ---- the two words
 
 // Up to a time, to which the clock moves at last; refused as an advance to it would be.
-pub fn run_until(flows: Flows, time: f64, page: &mut [u8; 65536], at: usize) -> Walked
+pub fn run_until<R: Print + Eprint + Alloc>(
+    rt: &R,
+    flows: Flows,
+    time: f64,
+    page: &mut [u8; 65536],
+    at: usize,
+) -> Walked
     requires invariant { Invariant flows }
     requires at_bound { at ≤ 49152 }
     ensures invariant_2 { Invariant result.flows }
@@ -42,23 +49,35 @@ pub fn run_until(flows: Flows, time: f64, page: &mut [u8; 65536], at: usize) -> 
         let at = put_text(page, at, b"refused 2\n");
         return Walked { flows, at };
     }
-    walk_by(flows, doubles::read_zero(time), true, page, at)
+    walk_by(rt, flows, doubles::read_zero(time), true, page, at)
 }
 
 // Until nobody is ever done, or only past the last clock time.
-pub fn finish(flows: Flows, page: &mut [u8; 65536], at: usize) -> Walked
+pub fn finish<R: Print + Eprint + Alloc>(
+    rt: &R,
+    flows: Flows,
+    page: &mut [u8; 65536],
+    at: usize,
+) -> Walked
     requires invariant { Invariant flows }
     requires at_bound { at ≤ 49152 }
     ensures invariant_2 { Invariant result.flows }
     ensures at_bound_2 { result.at ≤ 65536 }
 {
-    walk_by(flows, 1099511627776.0, false, page, at)
+    walk_by(rt, flows, 1099511627776.0, false, page, at)
 }
 
 // ---- a walk
 
 // A proved loop has to end, and nothing says that a walk does, so the steps are counted down from a number that no run uses up.
-fn walk_by(flows: Flows, last: f64, to_last: bool, page: &mut [u8; 65536], at: usize) -> Walked
+fn walk_by<R: Print + Eprint + Alloc>(
+    rt: &R,
+    flows: Flows,
+    last: f64,
+    to_last: bool,
+    page: &mut [u8; 65536],
+    at: usize,
+) -> Walked
     requires invariant { Invariant flows }
     requires at_bound { at ≤ 65536 }
     ensures invariant_2 { Invariant result.flows }
@@ -72,18 +91,24 @@ fn walk_by(flows: Flows, last: f64, to_last: bool, page: &mut [u8; 65536], at: u
     };
     let mut steps = u64::MAX;
     while steps > 0 && walk.more {
-        let next = step(walk, last, to_last, page);
+        let next = step(rt, walk, last, to_last, page);
         walk = next;
         steps -= 1;
     }
     let flows = walk.flows;
-    let at = room(page, walk.at);
+    let at = room(rt, page, walk.at);
     let at = put_text(page, at, b"done\n");
     Walked { flows, at }
 }
 
 // From where the walk stands to the next completion, if it comes by the last time; else to that time, or nowhere.
-fn step(walk: Walk, last: f64, to_last: bool, page: &mut [u8; 65536]) -> Walk
+fn step<R: Print + Eprint + Alloc>(
+    rt: &R,
+    walk: Walk,
+    last: f64,
+    to_last: bool,
+    page: &mut [u8; 65536],
+) -> Walk
     requires invariant { Invariant walk.flows }
     requires at_bound { walk.at ≤ 65536 }
     ensures invariant_2 { Invariant result.flows }
@@ -103,7 +128,7 @@ fn step(walk: Walk, last: f64, to_last: bool, page: &mut [u8; 65536]) -> Walk
             more: false,
         };
     };
-    stepped(flows, time, to_last && !(time < last), page, walk.at)
+    stepped(rt, flows, time, to_last && !(time < last), page, walk.at)
 }
 
 // When the next completion comes. Where the last step listed nobody and the delay leads nowhere, the next double is tried.
@@ -153,7 +178,14 @@ fn sooner(next: NextDone, last: f64) -> f64 {
 // ---- a step
 
 // An advance to a time, and a line where it lists somebody. A step to the last time that lists nobody ends the walk.
-fn stepped(flows: Flows, time: f64, last: bool, page: &mut [u8; 65536], at: usize) -> Walk
+fn stepped<R: Print + Eprint + Alloc>(
+    rt: &R,
+    flows: Flows,
+    time: f64,
+    last: bool,
+    page: &mut [u8; 65536],
+    at: usize,
+) -> Walk
     requires invariant { Invariant flows }
     requires at_bound { at ≤ 65536 }
     ensures invariant_2 { Invariant result.flows }
@@ -179,7 +211,7 @@ fn stepped(flows: Flows, time: f64, last: bool, page: &mut [u8; 65536], at: usiz
             more: !last,
         };
     }
-    let at = line(page, at, time, n, &lent[..3 * n]);
+    let at = line(rt, page, at, time, n, &lent[..3 * n]);
     Walk {
         flows,
         at,
@@ -189,12 +221,19 @@ fn stepped(flows: Flows, time: f64, last: bool, page: &mut [u8; 65536], at: usiz
 }
 
 // Who was done at a time.
-fn line(page: &mut [u8; 65536], at: usize, time: f64, n: usize, list: &[u32]) -> usize
+fn line<R: Print + Eprint + Alloc>(
+    rt: &R,
+    page: &mut [u8; 65536],
+    at: usize,
+    time: f64,
+    n: usize,
+    list: &[u32],
+) -> usize
     requires list_len_bound { length list.now ≤ 1024 }
     requires at_bound { at ≤ 65536 }
     ensures { result ≤ 65536 }
 {
-    let next = room(page, at);
+    let next = room(rt, page, at);
     let next = put_text(page, next, b"at ");
     let next = put_double(page, next, time);
     let next = put_text(page, next, b" list");

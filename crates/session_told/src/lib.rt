@@ -1,5 +1,6 @@
 // Answers as text, one line each: a double by its bits, with a remark in decimal for people where one can be made.
 #![tactic(auto)]
+
 ghost use Rattle.std.specs.Prelude.{◌+◌, ◌*◌, ◌≤◌, ◌≡◌, length};
 ghost use Rattle.rules.specs.Invariant.{Invariant};
 ghost use Rattle.flows.specs.Fits.{width_of, Fits, FitsSaid};
@@ -214,7 +215,13 @@ pub fn width(call: Call) -> usize
 // ---- looks
 
 // What is told of the state as it stands.
-pub fn look(flows: Flows, look: Look, page: &mut [u8; 65536], at: usize) -> usize
+pub fn look<R: Print + Eprint + Alloc>(
+    rt: &R,
+    flows: Flows,
+    look: Look,
+    page: &mut [u8; 65536],
+    at: usize,
+) -> usize
     requires invariant { Invariant flows }
     requires at_bound { at ≤ 49152 }
     ensures { result ≤ 65536 }
@@ -222,7 +229,7 @@ pub fn look(flows: Flows, look: Look, page: &mut [u8; 65536], at: usize) -> usiz
     match look {
         Look::Now => valued(page, at, b"value ", flows::now(flows)),
         Look::Counts => counts(flows, page, at),
-        Look::Dump => dump(flows, page, at),
+        Look::Dump => dump(rt, flows, page, at),
     }
 }
 

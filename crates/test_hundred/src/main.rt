@@ -1,10 +1,12 @@
 // A hundred calls of each kind on one simulator; of each kind it says how many did their work, found nothing or were refused, and what the last one
 // answered. tools/stack runs it in 1 MB of stack. What it has to print is what the patched copy of the Rust answers to the same calls.
 #![tactic(auto)]
+
 ghost use Rattle.std.specs.Prelude.{◌<◌};
 ghost use Rattle.rules.specs.Invariant.{Invariant};
 
 use flows::{Answer, Cap, Delay, EdgeRead, Flows, Limit, Outcome, Owner};
+use std::io;
 
 // The calls, in the order in which they are made.
 #[derive(Clone, Copy)]
@@ -48,7 +50,7 @@ struct Counts {
     refused: u64,
 }
 
-fn main() {
+fn main(rt: HostRuntime) -> io::Result<()> {
     let mut lent = [0u32; 768];
     let mut flows = Flows::new();
     let mut counts = none();
@@ -61,11 +63,12 @@ fn main() {
         let more = counted(counts, answer);
         counts = more;
         if n % 100 == 99 {
-            tell(kind, counts, number(answer));
+            tell(&rt, kind, counts, number(answer))?;
             counts = none();
         }
         n += 1;
     }
+    Ok(())
 }
 
 // ---- the calls
@@ -216,17 +219,12 @@ fn counted(counts: Counts, answer: Answer) -> Counts {
     more
 }
 
-fn tell(kind: Kind, counts: Counts, last: u64) {
-    name(kind);
-    io::write_all(1, b" done ");
-    io::print_decimal(1, counts.done);
-    io::write_all(1, b" nothing ");
-    io::print_decimal(1, counts.nothing);
-    io::write_all(1, b" refused ");
-    io::print_decimal(1, counts.refused);
-    io::write_all(1, b" last ");
-    io::print_hex(1, last, 16);
-    io::write_all(1, b"\n");
+fn tell(rt: &impl Print, kind: Kind, counts: Counts, last: u64) -> io::Result<()> {
+    let name = name(kind);
+    let done = counts.done;
+    let nothing = counts.nothing;
+    let refused = counts.refused;
+    println!(rt; "{name} done {done} nothing {nothing} refused {refused} last {last:016x}")
 }
 
 // An answer as one number: a double by its bits.
@@ -294,48 +292,48 @@ fn nth(n: u32) -> Kind {
 }
 
 // In three parts, since what a match costs to prove grows faster than its arms.
-fn name(kind: Kind) -> bool {
+fn name(kind: Kind) -> &'static str {
     match kind {
-        Kind::AddEdge => io::write_all(1, b"add_edge"),
-        Kind::Widen => io::write_all(1, b"widen"),
-        Kind::Submit => io::write_all(1, b"submit"),
-        Kind::SubmitCapped => io::write_all(1, b"submit_capped"),
-        Kind::NextCompletionDelay => io::write_all(1, b"next_completion_delay"),
-        Kind::Rate => io::write_all(1, b"rate"),
-        Kind::Bottleneck => io::write_all(1, b"bottleneck"),
-        Kind::EstimateNew => io::write_all(1, b"estimate_new"),
-        Kind::EstimateNewCapped => io::write_all(1, b"estimate_new_capped"),
-        Kind::Settle => io::write_all(1, b"settle"),
-        Kind::Remaining => io::write_all(1, b"remaining"),
+        Kind::AddEdge => "add_edge",
+        Kind::Widen => "widen",
+        Kind::Submit => "submit",
+        Kind::SubmitCapped => "submit_capped",
+        Kind::NextCompletionDelay => "next_completion_delay",
+        Kind::Rate => "rate",
+        Kind::Bottleneck => "bottleneck",
+        Kind::EstimateNew => "estimate_new",
+        Kind::EstimateNewCapped => "estimate_new_capped",
+        Kind::Settle => "settle",
+        Kind::Remaining => "remaining",
         _ => name_after_estimates(kind),
     }
 }
 
-fn name_after_estimates(kind: Kind) -> bool {
+fn name_after_estimates(kind: Kind) -> &'static str {
     match kind {
-        Kind::Advance => io::write_all(1, b"advance"),
-        Kind::Cancel => io::write_all(1, b"cancel"),
-        Kind::OwnersWithCompletions => io::write_all(1, b"owners_with_completions"),
-        Kind::TakeCompleted => io::write_all(1, b"take_completed"),
-        Kind::MeanInFlight => io::write_all(1, b"mean_in_flight"),
-        Kind::Edge => io::write_all(1, b"edge"),
-        Kind::Contains => io::write_all(1, b"contains"),
-        Kind::Now => io::write_all(1, b"now"),
-        Kind::Rounds => io::write_all(1, b"rounds"),
+        Kind::Advance => "advance",
+        Kind::Cancel => "cancel",
+        Kind::OwnersWithCompletions => "owners_with_completions",
+        Kind::TakeCompleted => "take_completed",
+        Kind::MeanInFlight => "mean_in_flight",
+        Kind::Edge => "edge",
+        Kind::Contains => "contains",
+        Kind::Now => "now",
+        Kind::Rounds => "rounds",
         _ => name_after_rounds(kind),
     }
 }
 
-fn name_after_rounds(kind: Kind) -> bool {
+fn name_after_rounds(kind: Kind) -> &'static str {
     match kind {
-        Kind::NumEdges => io::write_all(1, b"num_edges"),
-        Kind::NumInFlight => io::write_all(1, b"num_in_flight"),
-        Kind::NumUncollected => io::write_all(1, b"num_uncollected"),
-        Kind::PeakInFlight => io::write_all(1, b"peak_in_flight"),
-        Kind::Totals => io::write_all(1, b"totals"),
-        Kind::SubmittedCounts => io::write_all(1, b"submitted_counts"),
-        Kind::CompletedCounts => io::write_all(1, b"completed_counts"),
-        Kind::CancelledCounts => io::write_all(1, b"cancelled_counts"),
-        _ => io::write_all(1, b"bytes_submitted"),
+        Kind::NumEdges => "num_edges",
+        Kind::NumInFlight => "num_in_flight",
+        Kind::NumUncollected => "num_uncollected",
+        Kind::PeakInFlight => "peak_in_flight",
+        Kind::Totals => "totals",
+        Kind::SubmittedCounts => "submitted_counts",
+        Kind::CompletedCounts => "completed_counts",
+        Kind::CancelledCounts => "cancelled_counts",
+        _ => "bytes_submitted",
     }
 }
