@@ -51,10 +51,7 @@ fn run_file<R: Print + Eprint + Alloc + Files>(rt: &R, name: &[u8]) {
         return;
     };
     match fs::open(rt, path) {
-        Ok(file) => {
-            let mut file = file;
-            run_script(rt, &mut file, path);
-        }
+        Ok(mut file) => run_script(rt, &mut file, path),
         Err(error) => session_fields::fail(rt, path, error),
     }
 }
