@@ -20,7 +20,7 @@ use Rattle.rules.specs.declared.Seat.{Seat}
 use Rattle.rules.specs.Lists.{count, crossings}
 use Rattle.rules.specs.Records.{free}
 use Rattle.rules.specs.Filling.{Filling, no_seat, seat_at}
-use Rattle.rules.specs.Fair.{in_demand, C, k, slack_of, carried, Fair, Limits}
+use Rattle.rules.specs.Fair.{in_demand, C, k, slack_of, carried, Fair}
 use Rattle.fairness.proofs.Account.{good_sum, full_floor}
 use Rattle.fairness.proofs.Sums.{given, k_splits, carried_is, spent_under}
 use Rattle.fairness.proofs.Verdicts.{AtOwnCap}
@@ -59,7 +59,7 @@ module _ (path : Transfer → List ℕ) (edges : List Edge) (K : ℕ → ℕ) (f
   AtCapOr i P = AtOwnCap (get_or ts i free).rate_cap (get_or ts i free).rate (get_or ts i free).limit ⊎ P
 
   -- its bottleneck is an edge that there is
-  at_cap_or_bottleneck : (i : ℕ) → T (in_demand path (get_or ts i free)) → AtCapOr i ((b : Bottleneck path edges K f (path (get_or ts i free)) (get_or ts i free).rate (get_or ts i free).limit) × (b.edge < length edges))
+  pub at_cap_or_bottleneck : (i : ℕ) → T (in_demand path (get_or ts i free)) → AtCapOr i ((b : Bottleneck path edges K f (path (get_or ts i free)) (get_or ts i free).rate (get_or ts i free).limit) × (b.edge < length edges))
   at_cap_or_bottleneck i h = go (settled_at i h).why
     where
       go : AtCapOr i (Bottleneck path edges K f (path (get_or ts i free)) (get_or ts i free).rate (get_or ts i free).limit) → AtCapOr i ((b : Bottleneck path edges K f (path (get_or ts i free)) (get_or ts i free).rate (get_or ts i free).limit) × (b.edge < length edges))
@@ -91,12 +91,12 @@ module _ (path : Transfer → List ℕ) (edges : List Edge) (K : ℕ → ℕ) (f
         rw all at (spent_under path edges b.edge (exact rate + K b.edge * step_of edges b.edge) f.seats b.top)
 
     -- it carries its capacity but for the slack
-    carries : C edges b.edge ≤ carried path ts b.edge + slack_of path edges ts b.edge
+    pub carries : C edges b.edge ≤ carried path ts b.edge + slack_of path edges ts b.edge
     unfolding C
     carries = omega (arith, carried_here b.edge, slack_is b.edge known, b.full)
 
     -- nobody of the demand on it is faster but for the slack
-    nobody_faster : (j : ℕ) → T (in_demand path (get_or ts j free)) → 0 < crossings b.edge (path (get_or ts j free)) → exact (get_or ts j free).rate ≤ exact rate + slack_of path edges ts b.edge
+    pub nobody_faster : (j : ℕ) → T (in_demand path (get_or ts j free)) → 0 < crossings b.edge (path (get_or ts j free)) → exact (get_or ts j free).rate ≤ exact rate + slack_of path edges ts b.edge
     nobody_faster j h c =
         let top : exact (get_or ts j free).rate ≤ exact rate + K b.edge * step_of edges b.edge = rw (transfer_at j) (b.top j (given_at j h) (rw (transfer_at j) at c)) in
         omega (arith, slack_is b.edge known)
@@ -108,10 +108,6 @@ module _ (path : Transfer → List ℕ) (edges : List Edge) (K : ℕ → ℕ) (f
 
   no_less : (i : ℕ) → T (in_demand path (get_or ts i free)) → ((get_or ts i free).rate_cap ≡ AtMost (get_or ts i free).rate) ⊎ ((e : ℕ) × (0 < crossings e (path (get_or ts i free))) × (C edges e ≤ k path ts e * (exact (get_or ts i free).rate + slack_of path edges ts e)))
   no_less i h = elim (at_cap_or_bottleneck i h) [ inl (at, own) ↦ inl own | inr (b, known) ↦ inr (b.edge, b.crossed, floor b known) ]
-
-  -- the limit of a transfer of the demand is so
-  pub limited : (i : ℕ) → T (in_demand path (get_or ts i free)) → Limits path edges ts i (get_or ts i free).limit
-  limited i h = elim (at_cap_or_bottleneck i h) [ inl (at, own) ↦ rw at own | inr (b, known) ↦ rw b.named (record { crossed = b.crossed; carries = carries b known; nobody_faster = nobody_faster b known }) ]
 
   -- ---- all of it
 

@@ -30,7 +30,8 @@ use Rattle.fairness.proofs.Sums.{given, in_demand_kept}
 use Rattle.fairness.proofs.Settled.{capacity_of, Sound, Fills}
 use Rattle.fairness.proofs.Freezing.{fills_round}
 use Rattle.fairness.proofs.Begins.{load_few, enters_in_demand, none_given, fills_start}
-use Rattle.fairness.proofs.Ended.{fair, limited}
+use Rattle.fairness.proofs.Ended.{fair}
+use Rattle.fairness.proofs.Limited.{limited}
 
 -- ---- what a filling starts from
 

@@ -6,6 +6,7 @@ pub mod Choice
 pub mod Rounds
 pub mod InRound
 pub mod Start
+pub mod Seen
 pub mod Throughout
 pub mod Account
 pub mod Edge
@@ -15,6 +16,7 @@ pub mod Settled
 pub mod Freezing
 pub mod Begins
 pub mod Ended
+pub mod Limited
 pub mod Filled
 pub mod Rates
 pub mod Fair

@@ -29,4 +29,5 @@ pub mod Unmoved
 pub mod Zeros
 pub mod Watching
 pub mod FloorStays
+pub mod Matched
 pub mod Fillings

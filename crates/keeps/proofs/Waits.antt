@@ -4,7 +4,7 @@ use mathlib.Core.Bool.{Bool, true, false, cond}
 use mathlib.Core.List.{List, [], ◌∷◌, foldl}
 use Prim.Native.Nat.{suc}
 use lib.Ieee.{Float}
-use Rattle.doubles.specs.Doubles.{◌≺◌, ◌≼◌, nought, plain, Nonneg}
+use Rattle.doubles.specs.Doubles.{◌≺◌, ◌≼◌, nought, Nonneg}
 use Rattle.doubles.proofs.Binary64.{over_nonneg}
 use Rattle.doubles.proofs.Signs.{plain_nonneg, sum_nonneg}
 use Rattle.doubles.proofs.Zeros.{nought_plain}
