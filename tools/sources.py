@@ -9,7 +9,7 @@ SIGNATURE = re.compile(r"\bpub(\(crate\))?\s+(?:extern\s+\"C\"\s+)?fn\s+(\w+)")
 
 
 class Function:
-    """A public function. `requires` has the text of each clause, `ensures` its binder and its text."""
+    """A public function. `requires` and `ensures` have the text of each clause."""
 
     def __init__(self, crate, name, outside, where, parameters):
         self.crate, self.name, self.outside, self.where, self.parameters = crate, name, outside, where, parameters
@@ -71,7 +71,7 @@ def behind(text, start):
 
 
 def unquoted(clause):
-    """A clause in one line, without the marks of a proposition."""
+    """A clause in one line, without the marks that a starred clause has around a fact."""
     return re.sub(r"^(?:do )?⌜ (.*) ⌝$", r"\1", " ".join(clause.split()))
 
 
@@ -86,14 +86,9 @@ def functions(text, crate="", path=""):
         at = behind(text, opening)
         found = Function(crate, name, not match.group(1), f"{path}:{line}", re.findall(r"(\w+)\s*:", text[opening:at]))
         brace = text.find("{", at)
-        while brace >= 0 and (word := re.search(r"\b(requires|ensures)\s*\w*\s*$", text[at:brace])):
+        while brace >= 0 and (word := re.search(r"\b(requires|ensures)\b\*?\s*\w*\s*$", text[at:brace])):
             at = behind(text, brace)
-            clause = " ".join(text[brace + 1 : at - 1].split())
-            if word.group(1) == "requires":
-                found.requires.append(unquoted(clause))
-            else:
-                binder = re.match(r"λ (\w+)\. (.*)", clause)
-                found.ensures.append((binder.group(1), unquoted(binder.group(2))) if binder else ("_", unquoted(clause)))
+            (found.requires if word.group(1) == "requires" else found.ensures).append(unquoted(text[brace + 1 : at - 1]))
             brace = text.find("{", at)
         yield found
 
@@ -104,4 +99,5 @@ def functions_of(crate):
 
 def handed_on():
     """The pairs of crate and name that the crate flows hands on, in order."""
-    return re.findall(r"^pub use (\w+)::(\w+);", read("crates", "flows", "src", "lib.rt"), re.M)
+    found = re.findall(r"^pub use (\w+)::(\w+|\{[^}]*\});", read("crates", "flows", "src", "lib.rt"), re.M)
+    return [(crate, name) for crate, names in found for name in re.findall(r"\w+", names)]
