@@ -47,12 +47,14 @@ fn main(rt: HostRuntime) {
 // A name that is no text names no file for the library, so that it is refused here.
 fn run_file<R: Print + Eprint + Alloc + Files>(rt: &R, name: &[u8]) {
     let Ok(path) = std::str::from_utf8(name) else {
-        session_fields::fail(rt, "script", io::Error::from(ErrorKind::InvalidFilename));
+        let _ = session_fields::fail(rt, "script", io::Error::from(ErrorKind::InvalidFilename));
         return;
     };
     match fs::open(rt, path) {
         Ok(mut file) => run_script(rt, &mut file, path),
-        Err(error) => session_fields::fail(rt, path, error),
+        Err(error) => {
+            let _ = session_fields::fail(rt, path, error);
+        }
     }
 }
 
@@ -121,10 +123,7 @@ fn read_some<R: Eprint + Alloc, I: Read>(
 {
     match input.read(buffer) {
         Ok(n) => n,
-        Err(error) => {
-            session_fields::fail(rt, name, error);
-            0
-        }
+        Err(error) => session_fields::fail(rt, name, error),
     }
 }
 
