@@ -47,13 +47,13 @@ fn main(rt: HostRuntime) {
 // A name that is no text names no file for the library, so that it is refused here.
 fn run_file<R: Print + Eprint + Alloc + Files>(rt: &R, name: &[u8]) {
     let Ok(path) = std::str::from_utf8(name) else {
-        let _ = session_fields::fail(rt, "script", io::Error::from(ErrorKind::InvalidFilename));
+        session_fields::fail(rt, "script", io::Error::from(ErrorKind::InvalidFilename));
         return;
     };
     match fs::open(rt, path) {
         Ok(mut file) => run_script(rt, &mut file, path),
         Err(error) => {
-            let _ = session_fields::fail(rt, path, error);
+            session_fields::fail(rt, path, error);
         }
     }
 }

@@ -27,12 +27,12 @@ fn write_front<R: Print + Eprint + Alloc>(rt: &R, page: &[u8], at: usize)
     requires { at ≤ length page.now }
 {
     if let Err(error) = rt.write_all(&page[..at]) {
-        let _ = fail(rt, "standard output", error);
+        fail(rt, "standard output", error);
     }
 }
 
-// A line on standard error: what failed, as the caller names it, and why. Where that cannot be written either, nothing is left to tell it to. The answer is how many bytes a read
-// or a write that fails has brought over: none.
+// A line on standard error: what failed, as the caller names it, and why. Where that cannot be written either, nothing is left to tell it to.
+// The answer is how much was read or written: nothing.
 pub fn fail<R: Eprint + Alloc>(rt: &R, what: &str, error: io::Error) -> usize
     ensures { result ≡ 0 }
 {

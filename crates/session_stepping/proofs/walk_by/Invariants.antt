@@ -1,5 +1,5 @@
 -- `session_stepping::walk_by` meets its contract and ends: the steps are counted down, and each keeps the simulator sound. Assumes nothing.
-use Rattle.std.proofs.Common.{◌≤◌, rules}
+use Rattle.std.proofs.Common.{◌≤◌}
 use Rattle.rules.specs.Invariant.{Invariant}
 use Rattle.session_stepping.proofs.walk_by.Given as goal
 
