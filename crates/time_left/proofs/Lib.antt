@@ -1,2 +1,3 @@
+pub mod Stalled
 pub mod Times
 pub mod Told

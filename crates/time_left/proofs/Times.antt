@@ -2,7 +2,6 @@
 -- Assumes nothing.
 use Prim.Native.Nat.{◌^◌, ◌<◌}
 use native.Mathlib.Omega.{arith}
-use mathlib.Core.Path.{◌≡◌}
 use mathlib.Core.Bool.{Bool, true, false, not, ◌&&◌, ◌||◌, cond}
 use lib.Dec.{T}
 use lib.Ieee.{Float, round, of_int, mul, lt, fits, of_bits, le}
@@ -24,6 +23,7 @@ use Rattle.rules.specs.Tolerance.{B, eps}
 use Rattle.rules.specs.Done.{done_eps, is_done, time_to_done}
 use Rattle.rules.specs.Invariant.{ClockTime, SoundFloor, SoundTransfer, Invariant}
 use Rattle.rules.proofs.Floors.{default_floor}
+use Rattle.time_left.proofs.Stalled.{Stalled}
 
 -- ---- eps
 -- no floor is finer than the default, and that is above 0
@@ -83,10 +83,6 @@ pub not_nought : {eps : Float} → Plain eps → T (nought ≺ eps) → T (eps �
 not_nought e above below = let h = lt→exact nought_plain e above in let k = lt→exact e nought_plain below in omega arith
 
 -- ---- one transfer
-
--- Bytes are left, and none flow.
-abbrev pub Stalled : Transfer → Type 0
-Stalled t = T (B ≺ t.bytes_remaining) × (t.rate ≡ nought)
 
 -- What a time to done is of a transfer.
 pub data Time (eps : Float) (t : Transfer) : Delay → Type 0 where

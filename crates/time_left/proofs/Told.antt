@@ -25,7 +25,8 @@ use Rattle.slots.specs.declared.Lookup.{Lookup}
 use Rattle.slots.specs.declared.Lookup.TheVariants.{Slot, Nowhere}
 use Rattle.slots.specs.Lookup.{lookup}
 use Rattle.slots.proofs.Found.{Missing, Found, nowhere, somewhere, holds_id, one_slot}
-use Rattle.time_left.proofs.Times.{not_nought, eps_plain, eps_above, Stalled, Time, now, later, never, time_is}
+use Rattle.time_left.proofs.Stalled.{Stalled}
+use Rattle.time_left.proofs.Times.{not_nought, eps_plain, eps_above, Time, now, later, never, time_is}
 
 -- ---- answers told apart
 which : Answer → ℕ
