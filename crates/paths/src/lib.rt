@@ -1,24 +1,27 @@
 // Loops over a path, which is lent as the numbers of its edges in order.
 #![tactic(auto)]
 
-ghost use Rattle.std.specs.Prelude.{◌+◌, ◌-◌, ◌≡◌, length, eqb};
+ghost use Rattle.std.specs.Prelude.{◌+◌, ◌-◌, ◌≡◌, ◌≤◌, length, take, eqb};
 ghost use Rattle.doubles.specs.Doubles.{◌⊕◌};
 ghost use Rattle.rules.specs.Lists.{any, at_each_crossing};
 ghost use Rattle.rules.specs.Filling.{spend as the_spend};
 ghost use Rattle.paths.specs.Known.{Known, Roomy, Counted};
 
+use rules::Route;
+
+// The edges that a route names, as a path that can be lent.
+pub fn hops(route: &Route) -> &[usize]
+    requires { route.now.len ≤ length route.now.hops }
+    ensures { result.now ≡ take route.now.len route.now.hops }
+{
+    &route.hops[..route.len]
+}
+
 // Whether the path crosses edge e at all.
 pub fn crosses(path: &[usize], e: usize) -> bool
     ensures { result ≡ any (eqb e) path.now }
 {
-    let mut i: usize = 0;
-    while i < path.len() {
-        if e == path[i] {
-            return true;
-        }
-        i += 1;
-    }
-    false
+    path.contains(&e)
 }
 
 // Takes a rate off what is left of each edge, once for each crossing, and never below 0.
@@ -26,11 +29,8 @@ pub fn spend(residual: &mut [f64], path: &[usize], rate: f64)
     requires { Known (length residual.old) path.now }
     ensures { residual.new ≡ at_each_crossing path.now (the_spend rate) residual.old }
 {
-    let mut i: usize = 0;
-    while i < path.len() {
-        let e = path[i];
-        residual[e] = doubles::larger(residual[e] - rate, 0.0);
-        i += 1;
+    for e in path {
+        residual[*e] = doubles::larger(residual[*e] - rate, 0.0);
     }
 }
 
@@ -39,11 +39,8 @@ pub fn credit(moved: &mut [f64], path: &[usize], amount: f64)
     requires { Known (length moved.old) path.now }
     ensures { moved.new ≡ at_each_crossing path.now (λ m. m ⊕ amount) moved.old }
 {
-    let mut i: usize = 0;
-    while i < path.len() {
-        let e = path[i];
-        moved[e] = moved[e] + amount;
-        i += 1;
+    for e in path {
+        moved[*e] += amount;
     }
 }
 
@@ -53,11 +50,8 @@ pub fn raise(load: &mut [usize], path: &[usize])
     requires roomy { Roomy path.now load.old }
     ensures { load.new ≡ at_each_crossing path.now (λ n. n + 1) load.old }
 {
-    let mut i: usize = 0;
-    while i < path.len() {
-        let e = path[i];
-        load[e] = load[e] + 1;
-        i += 1;
+    for e in path {
+        load[*e] += 1;
     }
 }
 
@@ -67,10 +61,7 @@ pub fn lower(load: &mut [usize], path: &[usize])
     requires counted { Counted path.now load.old }
     ensures { load.new ≡ at_each_crossing path.now (λ n. n - 1) load.old }
 {
-    let mut i: usize = 0;
-    while i < path.len() {
-        let e = path[i];
-        load[e] = load[e] - 1;
-        i += 1;
+    for e in path {
+        load[*e] -= 1;
     }
 }

@@ -9,7 +9,7 @@ ghost use Rattle.rules.specs.Floors.{with_floor};
 ghost use Rattle.rules.specs.Invariant.{Invariant};
 
 // Who a transfer belongs to, and so which queue its completion waits in.
-#[derive(Clone, Copy)]
+#[derive(Clone, Copy, PartialEq, Eq, PartialOrd, Ord)]
 pub enum Owner {
     Worker(u32),
     Handoff,
@@ -83,7 +83,7 @@ pub struct Transfer {
 }
 
 // A transfer that is done and waits to be collected.
-#[derive(Clone, Copy)]
+#[derive(Clone, Copy, PartialEq, Eq, PartialOrd, Ord)]
 pub struct Completion {
     pub owner: Owner,
     pub id: u32,

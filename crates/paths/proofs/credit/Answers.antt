@@ -5,26 +5,23 @@ use lib.Ieee.{nan}
 use Rattle.paths.proofs.Walk.{walk_starts, walk_one, walk_ends, place_known}
 use Rattle.paths.proofs.credit.Goals as goal
 
-pub loop-i-init : goal.loop-i-init
-loop-i-init c = walk_starts
+pub loop-e-init : goal.loop-e-init
+loop-e-init c = walk_starts
 
 pub offset_bounds-moved-e : goal.offset_bounds-moved-e
-offset_bounds-moved-e c = let known = place_known c.requires c.loop-i.invariant c.loop-i-test.true in search rules
+offset_bounds-moved-e c = let known = place_known c.requires c.loop-e.invariant c.loop-e-test.true in search rules
 
 pub bounds-moved-e : goal.bounds-moved-e
-bounds-moved-e c = place_known c.requires c.loop-i.invariant c.loop-i-test.true
+bounds-moved-e c = place_known c.requires c.loop-e.invariant c.loop-e-test.true
 
-pub offset_bounds-moved-e-in-loop-i : goal.offset_bounds-moved-e-in-loop-i
-offset_bounds-moved-e-in-loop-i c = let known = place_known c.requires c.loop-i.invariant c.loop-i-test.true in search rules
+pub bounds-moved-e-in-loop-e : goal.bounds-moved-e-in-loop-e
+bounds-moved-e-in-loop-e c = place_known c.requires c.loop-e.invariant c.loop-e-test.true
 
-pub bounds-moved-e-in-loop-i : goal.bounds-moved-e-in-loop-i
-bounds-moved-e-in-loop-i c = place_known c.requires c.loop-i.invariant c.loop-i-test.true
-
-pub loop-i-preserved : goal.loop-i-preserved
-loop-i-preserved c = walk_one nan c.loop-i.invariant c.loop-i-test.true refl
+pub loop-e-preserved : goal.loop-e-preserved
+loop-e-preserved c = walk_one nan c.loop-e.invariant c.loop-e-test.true refl
 
 pub shape_of-moved : goal.shape_of-moved
-shape_of-moved c = c.loop-i.invariant.long
+shape_of-moved c = c.loop-e.invariant.long
 
 pub returns : goal.returns
-returns c = walk_ends c.loop-i.invariant (search rules)
+returns c = walk_ends c.loop-e.invariant (search rules)

@@ -5,27 +5,24 @@ use Rattle.rules.specs.Filling.{spend}
 use Rattle.paths.proofs.Walk.{walk_starts, walk_one, walk_ends, place_known}
 use Rattle.paths.proofs.spend.Goals as goal
 
-pub loop-i-init : goal.loop-i-init
-loop-i-init c = walk_starts
+pub loop-e-init : goal.loop-e-init
+loop-e-init c = walk_starts
 
 pub offset_bounds-residual-e : goal.offset_bounds-residual-e
-offset_bounds-residual-e c = let known = place_known c.requires c.loop-i.invariant c.loop-i-test.true in search rules
+offset_bounds-residual-e c = let known = place_known c.requires c.loop-e.invariant c.loop-e-test.true in search rules
 
 pub bounds-residual-e : goal.bounds-residual-e
-bounds-residual-e c = place_known c.requires c.loop-i.invariant c.loop-i-test.true
+bounds-residual-e c = place_known c.requires c.loop-e.invariant c.loop-e-test.true
 
-pub offset_bounds-residual-e-in-loop-i : goal.offset_bounds-residual-e-in-loop-i
-offset_bounds-residual-e-in-loop-i c = let known = place_known c.requires c.loop-i.invariant c.loop-i-test.true in search rules
+pub bounds-residual-e-in-loop-e : goal.bounds-residual-e-in-loop-e
+bounds-residual-e-in-loop-e c = place_known c.requires c.loop-e.invariant c.loop-e-test.true
 
-pub bounds-residual-e-in-loop-i : goal.bounds-residual-e-in-loop-i
-bounds-residual-e-in-loop-i c = place_known c.requires c.loop-i.invariant c.loop-i-test.true
-
-pub loop-i-preserved : goal.loop-i-preserved
+pub loop-e-preserved : goal.loop-e-preserved
 unfolding spend of_bits
-loop-i-preserved c = walk_one nan c.loop-i.invariant c.loop-i-test.true (rw c.larger.ensures)
+loop-e-preserved c = walk_one nan c.loop-e.invariant c.loop-e-test.true (rw c.larger.ensures)
 
 pub shape_of-residual : goal.shape_of-residual
-shape_of-residual c = c.loop-i.invariant.long
+shape_of-residual c = c.loop-e.invariant.long
 
 pub returns : goal.returns
-returns c = walk_ends c.loop-i.invariant (search rules)
+returns c = walk_ends c.loop-e.invariant (search rules)
