@@ -31,7 +31,7 @@ pub fn is_finite(x: f64) -> bool
     ensures { result ≡ is_finite x }
 {
     let top = 1.0 / 0.0;
-    if x < top { -top < x } else { false }
+    x < top && -top < x
 }
 
 // A count as a double. The cast `n as f64` asks for a bound on n, and this rounds where n has none.

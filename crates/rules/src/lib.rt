@@ -299,11 +299,7 @@ impl Tolerance {
     fn not_a_floor(floor: f64) -> bool
         ensures { result ≡ not_a_floor floor }
     {
-        if Tolerance::F <= floor {
-            !(floor <= Tolerance::MAX_FLOOR)
-        } else {
-            true
-        }
+        !(Tolerance::F <= floor && floor <= Tolerance::MAX_FLOOR)
     }
 
     // Seconds that count as none at a clock time: the clock times four over 2^52, or the floor.
@@ -395,13 +391,13 @@ impl Flows {
         if Tolerance::not_a_floor(floor) {
             return Outcome {
                 answer: Answer::Refused(1),
-                flows: flows,
+                flows,
             };
         }
         flows.tolerance.floor = floor;
         Outcome {
             answer: Answer::Done,
-            flows: flows,
+            flows,
         }
     }
 }

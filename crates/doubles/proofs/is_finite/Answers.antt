@@ -11,11 +11,11 @@ below_top (inf true) h = refl
 below_top (inf false) h = sym h
 below_top (fin s m e) h = refl
 
-not_below_top : (x : Float) → lt x (inf false) ≡ false → false ≡ is_finite x
+not_below_top : (x : Float) → lt x (inf false) ≡ false → lt x (inf false) ≡ is_finite x
 unfolding lt is_finite
 not_below_top nan h = refl
-not_below_top (inf s) h = refl
-not_below_top (fin s m e) h = sym h
+not_below_top (inf s) h = h
+not_below_top (fin s m e) h = refl
 
 pub returns-then-x-top : goal.returns-then-x-top
 unfolding div neg of_bits

@@ -6,11 +6,11 @@ use Rattle.doubles.specs.Doubles.{◌≼◌}
 use Rattle.rules.specs.Tolerance.{F}
 use Rattle.rules.specs.Refusals.{not_a_floor}
 use Rattle.rules.proofs.Tolerance.not_a_floor.Goals as goal
+use Rattle.rules.proofs.Tolerance.not_a_floor.Goals.{then-floor, else-floor}
 
-pub returns-then-floor : goal.returns-then-floor
+pub returns : goal.returns
 unfolding not_a_floor of_bits round
-returns-then-floor c = let not_below : (F ≼ c.args.floor) ≡ true = c.if-floor.true in rw not_below
-
-pub returns-else-floor : goal.returns-else-floor
-unfolding not_a_floor of_bits round
-returns-else-floor c = let below : (F ≼ c.args.floor) ≡ false = c.if-floor.false in rw below
+returns c = elim c.if-floor.branch [
+  | then-floor w ↦ let low : (F ≼ c.args.floor) ≡ true = w.if-floor.true in rw (w.result-is, low)
+  | else-floor w ↦ let low : (F ≼ c.args.floor) ≡ false = w.if-floor.false in rw (w.result-is, low)
+]
