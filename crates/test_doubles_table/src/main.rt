@@ -2,7 +2,7 @@
 // A line of the table has nineteen bytes: a letter, a space, sixteen hexadecimal digits and the line's end.
 #![tactic(auto)]
 
-ghost use Rattle.std.specs.Prelude.{◌+◌, ◌≤◌, ◌<◌, length, IfOk};
+ghost use Rattle.std.specs.Prelude.{◌≤◌, ◌<◌, length, IfOk};
 
 use std::io;
 use std::io::Read;
@@ -10,9 +10,15 @@ use std::io::Read;
 fn main(rt: HostRuntime) -> io::Result<()> {
     let mut buf = [0u8; 65536];
     let n = read_full(&mut rt.stdin(), &mut buf)?;
-    show_lines(&rt, &buf[..n], b'b', 0)?;
-    show_pairs(&rt, &buf[..n])?;
-    show_lines(&rt, &buf[..n], b'w', 0)
+    let text = &buf[..n];
+    each_line(text, b'b', |pattern| show_pattern(&rt, pattern))?;
+    // Every member beside every member, so that both orders of two are tried.
+    each_line(
+        text,
+        b'p',
+        |first| each_line(text, b'p', |second| show_pair(&rt, first, second)),
+    )?;
+    each_line(text, b'w', |count| show_count(&rt, count))
 }
 
 // Reads until the buffer is full or the input ends, and answers how many bytes stand at its start.
@@ -30,42 +36,20 @@ fn read_full<R: Read>(input: &mut R, buf: &mut [u8]) -> io::Result<usize>
     Ok(done)
 }
 
-// Every member beside every member, so that both orders of two are tried.
-fn show_pairs(rt: &impl Print, text: &[u8]) -> io::Result<()> {
-    let lines = text.len() / 19;
-    let mut k = 0;
-    while k < lines {
-        let at = k * 19;
-        if text[at] == b'p' {
-            show_lines(rt, text, b'p', number(text, at + 2))?;
+// Shows the numbers of the lines that begin with the letter, in order: one file feeds all the lists.
+fn each_line<F: FnMut(u64) -> io::Result<()>>(
+    text: &[u8],
+    letter: u8,
+    mut show: F,
+) -> io::Result<()>
+    requires { F.IsAlwaysCallable show }
+{
+    for line in text.chunks_exact(19) {
+        if line[0] == letter {
+            show(number(&line[2..18]))?;
         }
-        k += 1;
     }
     Ok(())
-}
-
-// The lines that begin with the letter, in order: one file feeds all the lists.
-fn show_lines(rt: &impl Print, text: &[u8], letter: u8, first: u64) -> io::Result<()> {
-    let lines = text.len() / 19;
-    let mut k = 0;
-    while k < lines {
-        let at = k * 19;
-        if text[at] == letter {
-            show(rt, letter, first, number(text, at + 2))?;
-        }
-        k += 1;
-    }
-    Ok(())
-}
-
-fn show(rt: &impl Print, letter: u8, first: u64, value: u64) -> io::Result<()> {
-    if letter == b'b' {
-        show_pattern(rt, value)
-    } else if letter == b'p' {
-        show_pair(rt, first, value)
-    } else {
-        show_count(rt, value)
-    }
 }
 
 fn show_pattern(rt: &impl Print, pattern: u64) -> io::Result<()> {
@@ -89,15 +73,11 @@ fn show_count(rt: &impl Print, count: u64) -> io::Result<()> {
     println!(rt; "whole {count} {bits:016x}")
 }
 
-// The sixteen hexadecimal digits from `from` on. The remainder keeps the sum within a u64, and loses nothing before the sixteenth digit.
-fn number(text: &[u8], from: usize) -> u64
-    requires { from + 16 ≤ length text.now }
-{
-    let mut value: u64 = 0;
-    let mut i = 0;
-    while i < 16 {
-        value = value % 0x1000_0000_0000_0000 * 16 + digit(text[from + i]);
-        i += 1;
+// The number that sixteen hexadecimal digits spell. The remainder keeps the sum within a u64, and loses nothing before the sixteenth digit.
+fn number(digits: &[u8]) -> u64 {
+    let mut value = 0;
+    for b in digits {
+        value = value % 0x1000_0000_0000_0000 * 16 + digit(*b);
     }
     value
 }
@@ -106,16 +86,9 @@ fn number(text: &[u8], from: usize) -> u64
 fn digit(b: u8) -> u64
     ensures { result < 16 }
 {
-    if b >= b'a' {
-        if b <= b'f' {
-            return (b - b'a') as u64 + 10;
-        }
-        return 0;
+    match b {
+        b'a'..=b'f' => u64::from(b - b'a') + 10,
+        b'0'..=b'9' => u64::from(b - b'0'),
+        _ => 0,
     }
-    if b >= b'0' {
-        if b <= b'9' {
-            return (b - b'0') as u64;
-        }
-    }
-    0
 }
