@@ -8,7 +8,7 @@ ghost use Rattle.rules.specs.Invariant.{Invariant};
 use flows::{Answer, Cap, Delay, EdgeRead, Flows, Limit, Outcome, Owner};
 use std::io;
 
-// The calls, in the order in which they are made.
+// The calls.
 #[derive(Clone, Copy)]
 enum Kind {
     AddEdge,
@@ -42,8 +42,41 @@ enum Kind {
     BytesSubmitted,
 }
 
+// In the order in which they are called.
+const KINDS: [Kind; 29] = [
+    Kind::AddEdge,
+    Kind::Widen,
+    Kind::Submit,
+    Kind::SubmitCapped,
+    Kind::NextCompletionDelay,
+    Kind::Rate,
+    Kind::Bottleneck,
+    Kind::EstimateNew,
+    Kind::EstimateNewCapped,
+    Kind::Settle,
+    Kind::Remaining,
+    Kind::Advance,
+    Kind::Cancel,
+    Kind::OwnersWithCompletions,
+    Kind::TakeCompleted,
+    Kind::MeanInFlight,
+    Kind::Edge,
+    Kind::Contains,
+    Kind::Now,
+    Kind::Rounds,
+    Kind::NumEdges,
+    Kind::NumInFlight,
+    Kind::NumUncollected,
+    Kind::PeakInFlight,
+    Kind::Totals,
+    Kind::SubmittedCounts,
+    Kind::CompletedCounts,
+    Kind::CancelledCounts,
+    Kind::BytesSubmitted,
+];
+
 // How many calls of a kind did their work, found nothing to do it on, or were refused.
-#[derive(Clone, Copy)]
+#[derive(Clone, Copy, Default)]
 struct Counts {
     done: u64,
     nothing: u64,
@@ -53,20 +86,16 @@ struct Counts {
 fn main(rt: HostRuntime) -> io::Result<()> {
     let mut lent = [0u32; 768];
     let mut flows = Flows::new();
-    let mut counts = none();
-    let mut n: u32 = 0;
-    while n < 2900 {
-        let kind = nth(n / 100);
-        let made = called(flows, kind, n % 100, &mut lent);
-        let answer = made.answer;
-        flows = made.flows;
-        let more = counted(counts, answer);
-        counts = more;
-        if n % 100 == 99 {
-            tell(&rt, kind, counts, number(answer))?;
-            counts = none();
+    for kind in KINDS {
+        let mut counts = Counts::default();
+        let mut last = 0;
+        for i in 0..100 {
+            let made = called(flows, kind, i, &mut lent);
+            flows = made.flows;
+            counts.count(made.answer);
+            last = number(made.answer);
         }
-        n += 1;
+        tell(&rt, kind, counts, last)?;
     }
     Ok(())
 }
@@ -142,7 +171,7 @@ fn asked(flows: Flows, kind: Kind, i: u32, lent: &mut [u32; 768]) -> Answer
             let path = [i % 64];
             flows::estimate_new_capped(flows, &path, x, 0.5, Cap::AtMost(x))
         }
-        Kind::Remaining => remaining(flows, i),
+        Kind::Remaining => flows::remaining(flows, i).answer,
         Kind::MeanInFlight => flows::mean_in_flight(flows, i % 64, x),
         Kind::OwnersWithCompletions => flows::owners_with_completions(flows, lent),
         Kind::Edge => edge(flows, i % 64),
@@ -152,16 +181,10 @@ fn asked(flows: Flows, kind: Kind, i: u32, lent: &mut [u32; 768]) -> Answer
     }
 }
 
-fn remaining(flows: Flows, id: u32) -> Answer {
-    let left = flows::remaining(flows, id);
-    left.answer
-}
-
 fn edge(flows: Flows, number: u32) -> Answer
     requires { Invariant flows }
 {
-    let read = flows::edge(flows, number);
-    match read {
+    match flows::edge(flows, number) {
         EdgeRead::Found(e) => Answer::Value(e.bytes_moved),
         EdgeRead::Refused(n) => Answer::Refused(n),
     }
@@ -198,32 +221,24 @@ fn number_of(flows: Flows, kind: Kind) -> Answer {
 
 // ---- the lines
 
-fn none() -> Counts {
-    Counts {
-        done: 0,
-        nothing: 0,
-        refused: 0,
+impl Counts {
+    fn count(&mut self, answer: Answer) {
+        let of_its_kind = match answer {
+            Answer::Refused(_) => &mut self.refused,
+            Answer::Unknown | Answer::Nothing => &mut self.nothing,
+            _ => &mut self.done,
+        };
+        *of_its_kind = of_its_kind.wrapping_add(1);
     }
-}
-
-fn counted(counts: Counts, answer: Answer) -> Counts {
-    let mut more = counts;
-    match answer {
-        Answer::Refused(_) => more.refused = std::num::wrapping_add_u64(counts.refused, 1),
-        Answer::Unknown | Answer::Nothing => more.nothing = std::num::wrapping_add_u64(
-            counts.nothing,
-            1,
-        ),
-        _ => more.done = std::num::wrapping_add_u64(counts.done, 1),
-    }
-    more
 }
 
 fn tell(rt: &impl Print, kind: Kind, counts: Counts, last: u64) -> io::Result<()> {
     let name = name(kind);
-    let done = counts.done;
-    let nothing = counts.nothing;
-    let refused = counts.refused;
+    let Counts {
+        done,
+        nothing,
+        refused,
+    } = counts;
     println!(rt; "{name} done {done} nothing {nothing} refused {refused} last {last:016x}")
 }
 
@@ -257,41 +272,6 @@ fn limit(l: Limit) -> u64 {
 
 // ---- the kinds
 
-fn nth(n: u32) -> Kind {
-    match n {
-        0 => Kind::AddEdge,
-        1 => Kind::Widen,
-        2 => Kind::Submit,
-        3 => Kind::SubmitCapped,
-        4 => Kind::NextCompletionDelay,
-        5 => Kind::Rate,
-        6 => Kind::Bottleneck,
-        7 => Kind::EstimateNew,
-        8 => Kind::EstimateNewCapped,
-        9 => Kind::Settle,
-        10 => Kind::Remaining,
-        11 => Kind::Advance,
-        12 => Kind::Cancel,
-        13 => Kind::OwnersWithCompletions,
-        14 => Kind::TakeCompleted,
-        15 => Kind::MeanInFlight,
-        16 => Kind::Edge,
-        17 => Kind::Contains,
-        18 => Kind::Now,
-        19 => Kind::Rounds,
-        20 => Kind::NumEdges,
-        21 => Kind::NumInFlight,
-        22 => Kind::NumUncollected,
-        23 => Kind::PeakInFlight,
-        24 => Kind::Totals,
-        25 => Kind::SubmittedCounts,
-        26 => Kind::CompletedCounts,
-        27 => Kind::CancelledCounts,
-        _ => Kind::BytesSubmitted,
-    }
-}
-
-// In three parts, since what a match costs to prove grows faster than its arms.
 fn name(kind: Kind) -> &'static str {
     match kind {
         Kind::AddEdge => "add_edge",
@@ -305,12 +285,6 @@ fn name(kind: Kind) -> &'static str {
         Kind::EstimateNewCapped => "estimate_new_capped",
         Kind::Settle => "settle",
         Kind::Remaining => "remaining",
-        _ => name_after_estimates(kind),
-    }
-}
-
-fn name_after_estimates(kind: Kind) -> &'static str {
-    match kind {
         Kind::Advance => "advance",
         Kind::Cancel => "cancel",
         Kind::OwnersWithCompletions => "owners_with_completions",
@@ -320,12 +294,6 @@ fn name_after_estimates(kind: Kind) -> &'static str {
         Kind::Contains => "contains",
         Kind::Now => "now",
         Kind::Rounds => "rounds",
-        _ => name_after_rounds(kind),
-    }
-}
-
-fn name_after_rounds(kind: Kind) -> &'static str {
-    match kind {
         Kind::NumEdges => "num_edges",
         Kind::NumInFlight => "num_in_flight",
         Kind::NumUncollected => "num_uncollected",
@@ -334,6 +302,6 @@ fn name_after_rounds(kind: Kind) -> &'static str {
         Kind::SubmittedCounts => "submitted_counts",
         Kind::CompletedCounts => "completed_counts",
         Kind::CancelledCounts => "cancelled_counts",
-        _ => "bytes_submitted",
+        Kind::BytesSubmitted => "bytes_submitted",
     }
 }
