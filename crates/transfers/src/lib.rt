@@ -15,11 +15,7 @@ use rules::{Delay, Limit, NextDone, Tolerance, Transfer};
 pub fn takes_part(t: Transfer) -> bool
     ensures { result ≡ takes_part t }
 {
-    if t.taken {
-        t.bytes_remaining > Tolerance::B
-    } else {
-        false
-    }
+    t.taken && t.bytes_remaining > Tolerance::B
 }
 
 // Whether a transfer's crossings count in the load of edges.
@@ -33,21 +29,7 @@ pub fn counts_in_loads(t: Transfer) -> bool
 pub fn with_rate(t: Transfer, rate: f64, limit: Limit) -> Transfer
     ensures { result ≡ with_rate rate limit t }
 {
-    let owner = t.owner;
-    let path = t.path;
-    let rate_cap = t.rate_cap;
-    Transfer {
-        taken: t.taken,
-        id: t.id,
-        owner: owner,
-        path: path,
-        latency_remaining: t.latency_remaining,
-        bytes_remaining: t.bytes_remaining,
-        rate_cap: rate_cap,
-        rate: rate,
-        limit: limit,
-        last_update: t.last_update,
-    }
+    Transfer { rate, limit, ..t }
 }
 
 // ---- being done
@@ -63,17 +45,8 @@ pub fn done_eps(tolerance: Tolerance, now: f64) -> f64
 pub fn is_done(t: Transfer, eps: f64) -> bool
     ensures { result ≡ is_done eps t }
 {
-    if t.latency_remaining <= eps {
-        if t.bytes_remaining <= Tolerance::B {
-            true
-        } else if t.rate > 0.0 {
-            t.bytes_remaining / t.rate <= eps
-        } else {
-            false
-        }
-    } else {
-        false
-    }
+    t.latency_remaining <= eps
+        && (t.bytes_remaining <= Tolerance::B || t.rate > 0.0 && t.bytes_remaining / t.rate <= eps)
 }
 
 // How long a transfer takes to be done at its rate.
@@ -97,27 +70,20 @@ pub fn time_to_done(t: Transfer, eps: f64) -> Delay
 pub fn sooner(a: Delay, b: Delay) -> Delay
     ensures { result ≡ sooner a b }
 {
-    match a {
-        Delay::Never => b,
-        Delay::After(x) => match b {
-            Delay::Never => a,
-            Delay::After(y) => if y < x { b } else { a },
-        },
+    match (a, b) {
+        (Delay::Never, _) => b,
+        (_, Delay::Never) => a,
+        (Delay::After(x), Delay::After(y)) => if y < x { b } else { a },
     }
 }
 
 // The time to the first completion, if anything in flight can complete.
-pub fn soonest(in_flight: [Transfer; 256], eps: f64) -> Delay
-    ensures { result ≡ soonest eps in_flight }
+pub fn soonest(in_flight: &[Transfer; 256], eps: f64) -> Delay
+    ensures { result ≡ soonest eps in_flight.now }
 {
-    let mut best = Delay::Never;
-    let mut i: usize = 0;
-    while i < 256 {
-        let t = in_flight[i];
-        best = sooner_with(best, t, eps);
-        i += 1;
-    }
-    best
+    in_flight
+        .iter()
+        .fold(Delay::Never, |best, t| sooner_with(best, *t, eps))
 }
 
 // One more slot looked at.
@@ -125,8 +91,7 @@ fn sooner_with(best: Delay, t: Transfer, eps: f64) -> Delay
     ensures { result ≡ cond t.taken (sooner best (time_to_done eps t)) best }
 {
     if t.taken {
-        let d = time_to_done(t, eps);
-        sooner(best, d)
+        sooner(best, time_to_done(t, eps))
     } else {
         best
     }

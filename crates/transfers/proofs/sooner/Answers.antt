@@ -2,18 +2,18 @@
 use Rattle.rules.specs.Done.{sooner}
 use Rattle.transfers.proofs.sooner.Goals as goal
 
-pub returns-in-Never : goal.returns-in-Never
+pub returns-in-Never-default : goal.returns-in-Never-default
 unfolding sooner
-returns-in-Never c = simp c.in-Never.is
+returns-in-Never-default c = rw c.in-Never-default.is-0
 
-pub returns-in-Never-b : goal.returns-in-Never-b
+pub returns-in_default-Never : goal.returns-in_default-Never
 unfolding sooner
-returns-in-Never-b c = simp (c.in-After.is, c.in-Never-b.is)
+returns-in_default-Never c = simp (c.in_default-Never.is-0, c.in_default-Never.is-1)
 
 pub returns-then-y-x : goal.returns-then-y-x
 unfolding sooner
-returns-then-y-x c = simp (c.in-After.is, c.in-After-b.is, c.if-y-x.true)
+returns-then-y-x c = simp (c.in-After-After.is-0, c.in-After-After.is-1, c.if-y-x.true)
 
 pub returns-else-y-x : goal.returns-else-y-x
 unfolding sooner
-returns-else-y-x c = simp (c.in-After.is, c.in-After-b.is, c.if-y-x.false)
+returns-else-y-x c = simp (c.in-After-After.is-0, c.in-After-After.is-1, c.if-y-x.false)
