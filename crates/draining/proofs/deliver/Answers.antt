@@ -2,20 +2,20 @@
 use mathlib.Core.Path.{sym}
 use native.Mathlib.Nat.{le_of_eq}
 use Rattle.rules.specs.Records.{own_path}
-use Rattle.paths.proofs.Routes.{known_route, known_more, route_length}
-use Rattle.draining.specs.Credits.{credited}
+use Rattle.rules.specs.Clock.{deliver}
+use Rattle.paths.proofs.Routes.{known_route, known_more, route_fits}
 use Rattle.draining.proofs.deliver.Goals as goal
 
-pub slice_bounds-credit-end : goal.slice_bounds-credit-end
-slice_bounds-credit-end c = sym (route_length c.requires.path)
+pub hops-requires : goal.hops-requires
+hops-requires c = route_fits c.requires.path
 
 pub credit-requires : goal.credit-requires
-credit-requires c = known_more (le_of_eq (sym c.requires.places)) (known_route c.requires.path)
+credit-requires c = rw c.hops.ensures (known_more (le_of_eq (sym c.requires.places)) (known_route c.requires.path))
 
 pub returns-then-moves : goal.returns-then-moves
-unfolding credited own_path
-returns-then-moves c = rw (← c.moves.ensures, c.if-moves.true, ← c.bytes_flowing-amount.ensures) c.credit.ensures
+unfolding deliver own_path
+returns-then-moves c = rw (← c.moves.ensures, c.if-moves.true, ← c.bytes_flowing.ensures, ← c.hops.ensures) c.credit.ensures
 
 pub returns-else-moves : goal.returns-else-moves
-unfolding credited
+unfolding deliver
 returns-else-moves c = rw (← c.moves.ensures, c.if-moves.false)

@@ -4,4 +4,4 @@ use Rattle.draining.proofs.flowing_time.Goals as goal
 
 pub returns : goal.returns
 unfolding flowing_time
-returns c = rw c.latency_paid-paid.ensures
+returns c = rw c.latency_paid.ensures
