@@ -60,9 +60,10 @@ fn against(best: Share, e: usize, residual: f64, load: usize) -> Share
     ensures { result ≡ cond (ltb 0 load) (tighter_share best (the_share e residual load)) best }
 {
     if 0 < load {
-        return tighter(best, share(e, residual, load));
+        tighter(best, share(e, residual, load))
+    } else {
+        best
     }
-    best
 }
 
 // The share of the lowest edge with load; there is one.
@@ -87,10 +88,8 @@ fn winning_edge(residual: &[f64], load: &[usize]) -> Share
     ensures { result ≡ smallest_share (shares_by load.now 0 residual.now) }
 {
     let mut best = first_share(residual, load);
-    let mut e: usize = 0;
-    while e < residual.len() {
-        best = against(best, e, residual[e], load[e]);
-        e += 1;
+    for (e, left) in residual.iter().enumerate() {
+        best = against(best, e, *left, load[e]);
     }
     best
 }
@@ -98,22 +97,18 @@ fn winning_edge(residual: &[f64], load: &[usize]) -> Share
 // ---- a round
 
 // What the round decides: the next cap against the most contended edge.
-pub fn decide(f: Scratch, order: CapOrder) -> Decision
-    requires standing { Standing f }
-    requires coming { Coming order f }
-    requires loaded { Loaded f.load }
-    ensures verdict { result.verdict ≡ the_verdict (smallest_cap (filling f)) (the_winning_edge own_path (filling f)) }
-    ensures cursor { result.cursor ≡ frozen_front f.seats (listed order) }
-    ensures passed { Passed f.seats (listed order) result.cursor }
+pub fn decide(f: &Scratch, order: &CapOrder) -> Decision
+    requires standing { Standing f.now }
+    requires coming { Coming order.now f.now }
+    requires loaded { Loaded f.now.load }
+    ensures verdict { result.verdict ≡ the_verdict (smallest_cap (filling f.now)) (the_winning_edge own_path (filling f.now)) }
+    ensures cursor { result.cursor ≡ frozen_front f.now.seats (listed order.now) }
+    ensures passed { Passed f.now.seats (listed order.now) result.cursor }
 {
-    let seats = f.seats;
-    let residual = f.residual;
-    let load = f.load;
-    let next = caps::next_cap(seats, order, f.cap_cursor);
-    let capped = next.best;
-    let best = winning_edge(&residual, &load);
+    let next = caps::next_cap(&f.seats, order, f.cap_cursor);
+    let best = winning_edge(&f.residual, &f.load);
     Decision {
-        verdict: verdict(capped, best),
+        verdict: verdict(next.best, best),
         cursor: next.cursor,
     }
 }
@@ -169,49 +164,39 @@ fn freeze(residual: &mut [f64], load: &mut [usize], v: Verdict, i: usize, s: Sea
     ensures residual { residual.new ≡ cond (freezes own_path v i s) (at_each_crossing (own_path s.transfer) (spend (the_rate_by v)) residual.old) residual.old }
     ensures load { load.new ≡ cond (freezes own_path v i s) (at_each_crossing (own_path s.transfer) (λ n. n - 1) load.old) load.old }
 {
-    if s.unfrozen {
-        let t = s.transfer;
-        let path = t.path;
-        let hops = path.hops;
-        let len = path.len;
-        if names(v, i, &hops[..len]) {
-            let rate = rate_by(v);
-            paths::spend(residual, &hops[..len], rate);
-            paths::lower(load, &hops[..len]);
-            let frozen = transfers::with_rate(t, rate, limit_by(v));
-            return Seat {
-                transfer: frozen,
-                unfrozen: false,
-            };
-        }
+    let path = paths::hops(&s.transfer.path);
+    if s.unfrozen && names(v, i, path) {
+        let rate = rate_by(v);
+        paths::spend(residual, path, rate);
+        paths::lower(load, path);
+        return Seat {
+            transfer: transfers::with_rate(s.transfer, rate, limit_by(v)),
+            unfrozen: false,
+        };
     }
     s
 }
 
 // One round: those that the verdict names are frozen in slot order, and it is counted.
-pub fn round(f: Scratch, v: Verdict, cursor: usize) -> Scratch
-    requires standing { Standing f }
-    requires few { f.rounds < 256 }
-    ensures { Frozen f v cursor result }
+pub fn round(f: &mut Scratch, v: Verdict, cursor: usize)
+    requires standing { Standing f.old }
+    requires few { f.old.rounds < 256 }
+    ensures { Frozen f.old v cursor f.new }
 {
-    let mut after = f;
-    let mut residual = f.residual;
-    let mut load = f.load;
-    let mut unfrozen: usize = 0;
-    let mut i: usize = 0;
-    while i < 256 {
-        let was = after.seats[i];
-        let s = freeze(&mut residual, &mut load, v, i, was);
+    let Scratch {
+        seats,
+        residual,
+        load,
+        ..
+    } = f;
+    let mut unfrozen = 0;
+    for (i, s) in seats.iter_mut().enumerate() {
+        *s = freeze(residual, load, v, i, *s);
         if s.unfrozen {
             unfrozen += 1;
         }
-        after.seats[i] = s;
-        i += 1;
     }
-    after.residual = residual;
-    after.load = load;
-    after.unfrozen = unfrozen;
-    after.cap_cursor = cursor;
-    after.rounds = f.rounds + 1;
-    after
+    f.unfrozen = unfrozen;
+    f.cap_cursor = cursor;
+    f.rounds += 1;
 }

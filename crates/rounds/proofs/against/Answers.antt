@@ -7,5 +7,5 @@ use Rattle.rounds.proofs.against.Goals as goal
 pub returns-then-load-gt0 : goal.returns-then-load-gt0
 returns-then-load-gt0 c = rw (lt-ltb 0 c.args.load c.if-load-gt0.true) (c.tighter.ensures ∙ ap (tighter_share c.args.best) c.share.ensures)
 
-pub returns : goal.returns
-returns c = rw (le-ltb 0 c.args.load c.if-load-gt0.false) refl
+pub returns-else-load-gt0 : goal.returns-else-load-gt0
+returns-else-load-gt0 c = rw (le-ltb 0 c.args.load c.if-load-gt0.false) refl

@@ -9,47 +9,38 @@ use Rattle.rounds.proofs.round.Goals.{then-s, else-s}
 use Rattle.rounds.proofs.round.Goals as goal
 
 pub loop-i-init : goal.loop-i-init
-loop-i-init c = freezing_starts c.args.v c.args.f.seats c.args.f.residual c.args.f.load c.requires.standing.places c.requires.standing.edges c.requires.standing.loads
+loop-i-init c =
+    let f = c.args.f.now in
+    freezing_starts c.args.v f.seats f.residual f.load c.requires.standing.places c.requires.standing.edges c.requires.standing.loads
 
-pub bounds-after-i : goal.bounds-after-i
-bounds-after-i c = omega (arith, c.requires.standing.places)
-
-pub slice_bounds-freeze-end : goal.slice_bounds-freeze-end
-slice_bounds-freeze-end c = sym c.loop-i.invariant.edges
-
-pub slice_bounds-freeze-end-in-loop-i : goal.slice_bounds-freeze-end-in-loop-i
-slice_bounds-freeze-end-in-loop-i c = sym c.loop-i.invariant.loads
-
-pub freeze-s-requires : goal.freeze-s-requires
-freeze-s-requires c = freezing_asks c.args.v c.args.f.seats c.requires.standing.places c.args.f.residual c.loop-i.after.seats c.loop-i.residual c.loop-i.load c.loop-i.unfrozen c.loop-i.i c.loop-i.invariant _ c.loop-i-test.true c.requires.standing.paths
-
-pub overflow_add-unfrozen : goal.overflow_add-unfrozen
-overflow_add-unfrozen c = omega (arith, c.loop-i.invariant.few, c.loop-i.invariant.within)
-
-pub bounds-after-i-in-loop-i : goal.bounds-after-i-in-loop-i
-bounds-after-i-in-loop-i c = omega (arith, c.loop-i.invariant.places)
+pub freeze-requires : goal.freeze-requires
+freeze-requires c =
+    let f = c.args.f.now in
+    let loop = c.loop-i in
+    freezing_asks c.args.v f.seats c.requires.standing.places f.residual loop.seats loop.residual loop.load loop.unfrozen loop.i loop.invariant _ c.loop-i-test.true c.requires.standing.paths
 
 pub loop-i-preserved : goal.loop-i-preserved
 loop-i-preserved c =
-    let is : (b : Bool) → c.freeze-s.result.unfrozen ≡ b → c.if-s.unfrozen ≡ c.loop-i.unfrozen + cond b 1 0 → c.if-s.unfrozen ≡ c.loop-i.unfrozen + cond c.freeze-s.result.unfrozen 1 0 = λ b u e. e ∙ ap (λ (z : Bool). c.loop-i.unfrozen + cond z 1 0) (sym u) in
-    freezing_one c.args.v c.args.f.seats c.requires.standing.places c.args.f.residual c.loop-i.after.seats c.loop-i.residual c.loop-i.load c.loop-i.unfrozen c.loop-i.i c.loop-i.invariant _ c.loop-i-test.true _ c.freeze-s.ensures.residual _ c.freeze-s.ensures.load c.freeze-s.result c.if-s.unfrozen c.freeze-s.ensures.seat
+    let f = c.args.f.now in
+    let loop = c.loop-i in
+    let is : (b : Bool) → c.freeze.result.unfrozen ≡ b → c.if-s.unfrozen ≡ loop.unfrozen + cond b 1 0 → c.if-s.unfrozen ≡ loop.unfrozen + cond c.freeze.result.unfrozen 1 0 = λ b u e. e ∙ ap (λ (z : Bool). loop.unfrozen + cond z 1 0) (sym u) in
+    freezing_one c.args.v f.seats c.requires.standing.places f.residual loop.seats loop.residual loop.load loop.unfrozen loop.i loop.invariant _ c.loop-i-test.true _ c.freeze.ensures.residual _ c.freeze.ensures.load c.freeze.result c.if-s.unfrozen c.freeze.ensures.seat
     (elim c.if-s.branch [
       | then-s w ↦ is true w.if-s.true w.unfrozen-is
       | else-s w ↦ is false w.if-s.false (omega (arith, w.unfrozen-is))
     ])
 
-pub overflow_add-after : goal.overflow_add-after
-overflow_add-after c = omega (arith, c.requires.few)
-
 pub returns : goal.returns
 unfolding frozen_by num_unfrozen
 returns c =
-    let over = c.loop-i-test.false in
-    let seats_are = seats_done c.args.v c.args.f.seats c.requires.standing.places c.args.f.residual c.loop-i.after.seats c.loop-i.residual c.loop-i.load c.loop-i.unfrozen c.loop-i.i c.loop-i.invariant (omega arith) in
-    let edges_are = edges_done c.args.v c.args.f.seats c.requires.standing.places c.args.f.residual c.loop-i.after.seats c.loop-i.residual c.loop-i.load c.loop-i.unfrozen c.loop-i.i c.loop-i.invariant (omega arith) c.requires.standing.edges in
+    let f = c.args.f.now in
+    let loop = c.loop-i in
+    let places = c.requires.standing.places in
+    let seats_are = seats_done c.args.v f.seats places f.residual loop.seats loop.residual loop.load loop.unfrozen loop.i loop.invariant (omega arith) in
+    let edges_are = edges_done c.args.v f.seats places f.residual loop.seats loop.residual loop.load loop.unfrozen loop.i loop.invariant (omega arith) c.requires.standing.edges in
     record {
       same = filling_same seats_are edges_are (omega arith);
-      loads = rw seats_are (loads_done c.args.v c.args.f.seats c.requires.standing.places c.args.f.residual c.loop-i.after.seats c.loop-i.residual c.loop-i.load c.loop-i.unfrozen c.loop-i.i c.loop-i.invariant (omega arith));
-      counted = rw seats_are (count_done c.args.v c.args.f.seats c.requires.standing.places c.args.f.residual c.loop-i.after.seats c.loop-i.residual c.loop-i.load c.loop-i.unfrozen c.loop-i.i c.loop-i.invariant (omega arith));
+      loads = rw seats_are (loads_done c.args.v f.seats places f.residual loop.seats loop.residual loop.load loop.unfrozen loop.i loop.invariant (omega arith));
+      counted = rw seats_are (count_done c.args.v f.seats places f.residual loop.seats loop.residual loop.load loop.unfrozen loop.i loop.invariant (omega arith));
       passed = refl;
     }

@@ -4,7 +4,6 @@ use Prim.Native.Nat.{◌≤◌}
 use lib.ListN.{length, drop_of_length-le}
 use Rattle.rules.specs.Filling.{shares, smallest_share}
 use Rattle.rounds.proofs.Searching.{best_one}
-use borrow.Author.Rules.{rules}
 use native.Mathlib.Omega.{arith}
 use Rattle.rounds.proofs.winning_edge.Goals as goal
 
@@ -13,7 +12,7 @@ first_share-best-requires c = c.requires
 
 pub loop-e-init : goal.loop-e-init
 unfolding smallest_share
-loop-e-init c = (search rules, rw c.first_share-best.ensures refl)
+loop-e-init c = rw c.first_share-best.ensures refl
 
 pub offset_bounds-load-e : goal.offset_bounds-load-e
 offset_bounds-load-e c = omega (arith, c.requires.same)
@@ -25,15 +24,11 @@ pub against-best-requires : goal.against-best-requires
 against-best-requires c = c.requires.few c.loop-e.e
 
 pub loop-e-preserved : goal.loop-e-preserved
-loop-e-preserved c = (
-  omega arith,
-  rw c.against-best.ensures
-      (sym (best_one c.args.load.now c.args.residual.now c.loop-e.e _ c.loop-e-test.true c.loop-e.best)
-      ∙ c.loop-e.invariant.1),
-)
+loop-e-preserved c =
+    rw c.against-best.ensures (sym (best_one c.args.load.now c.args.residual.now c.loop-e.e _ (omega arith) c.loop-e.best) ∙ c.loop-e.invariant)
 
 pub returns : goal.returns
 unfolding shares
 returns c =
-    let over : length c.args.residual.now ≤ c.loop-e.e = search rules in
-    rw (drop_of_length-le c.args.residual.now over) at c.loop-e.invariant.1
+    let over : length c.args.residual.now ≤ c.loop-e.e = omega arith in
+    rw (drop_of_length-le c.args.residual.now over) at c.loop-e.invariant
