@@ -2,9 +2,11 @@
 use mathlib.Core.Path.{◌≡◌, refl, sym, ap, subst, ◌∙◌}
 use mathlib.Core.Bool.{Bool, true, false, cond}
 use mathlib.Core.List.{List, [], ◌∷◌}
-use Prim.Native.Nat.{ℕ}
+use Prim.Native.Nat.{ℕ, suc}
 use native.Mathlib.Omega.{arith}
 use lib.ListN.{length, get_or}
+use Rattle.std.specs.Array.{list_steps}
+use Rattle.std.specs.Iterator.{Yields}
 use Rattle.rules.specs.declared.Limit.TheVariants.{Nowhere}
 use Rattle.rules.specs.declared.Edge.{Edge}
 use Rattle.rules.specs.declared.Route.{Route}
@@ -17,6 +19,11 @@ use Rattle.fairness.specs.Ready.{Ready}
 use Rattle.fairness.proofs.Reading.{Steady}
 use Rattle.fairness.proofs.Start.{start_seat, start_ready, own_path_known}
 use Rattle.filling.specs.Filled.{Fillable}
+
+-- what a walk over a list comes to is one of its elements
+pub comes_to : {A : Type 0} (xs ys t : List A) (x : A) (u : List A) (d : A) → Yields list_steps xs ys t → t ≡ x ∷ u → (i : ℕ) × (get_or xs i d ≡ x)
+comes_to xs [] t x u d y e = (0, rw (y, e) refl)
+comes_to xs (z ∷ ys) t x u d y e = let later = comes_to y.0 ys t x u d y.2 e in (suc later.0, rw y.1 later.1)
 
 -- a seat keeps of its transfer what a rate does not change
 module _ {A : Type 0} (g : Transfer → A) (kept : Steady g) where

@@ -23,7 +23,7 @@ shares t (suc n) (e ∷ hops) h l = refl
 
 pub returns-then-t-eq0 : goal.returns-then-t-eq0
 unfolding own_path
-returns-then-t-eq0 c = rw (c.with_rate-lone.ensures, c.lone_rate.ensures) (alone c.args.t c.args.t.path.len c.args.t.path.hops c.if-t-eq0.true)
+returns-then-t-eq0 c = rw (c.with_rate.ensures, c.lone_rate.ensures) (alone c.args.t c.args.t.path.len c.args.t.path.hops c.if-t-eq0.true)
 
 pub returns : goal.returns
 unfolding own_path

@@ -9,19 +9,19 @@ use native.Mathlib.Omega.{arith}
 use Rattle.filling.proofs.fill.Goals as goal
 
 pub loop-f-init : goal.loop-f-init
-loop-f-init c = running_starts c.args.start c.args.order c.requires.begun c.requires.ordered
+loop-f-init c = running_starts c.args.f.now c.args.order.now c.requires.begun c.requires.ordered
 
 pub decide-decided-requires : goal.decide-decided-requires
-decide-decided-requires c = record { standing = c.loop-f.invariant.standing; coming = running_comes c.args.start c.args.order c.requires.begun c.requires.ordered c.loop-f.f c.loop-f.invariant; loaded = running_loaded c.args.start c.args.order c.requires.begun c.requires.ordered c.loop-f.f c.loop-f.invariant c.loop-f-test.true }
+decide-decided-requires c = record { standing = c.loop-f.invariant.standing; coming = running_comes c.args.f.now c.args.order.now c.requires.begun c.requires.ordered c.loop-f.f c.loop-f.invariant; loaded = running_loaded c.args.f.now c.args.order.now c.requires.begun c.requires.ordered c.loop-f.f c.loop-f.invariant c.loop-f-test.true }
 
-pub round-f-requires : goal.round-f-requires
-round-f-requires c = record { standing = c.loop-f.invariant.standing; few = omega (arith, c.loop-f.invariant.few, c.loop-f-test.true) }
+pub round-requires : goal.round-requires
+round-requires c = record { standing = c.loop-f.invariant.standing; few = omega (arith, c.loop-f.invariant.few, c.loop-f-test.true) }
 
 pub loop-f-smaller : goal.loop-f-smaller
-loop-f-smaller c = round_fewer c.args.start c.args.order c.requires.begun c.requires.ordered c.loop-f.f c.loop-f.invariant c.loop-f-test.true c.decide-decided.result.verdict c.decide-decided.result.cursor c.decide-decided.ensures.verdict c.decide-decided.ensures.passed c.round-f.result c.round-f.ensures
+loop-f-smaller c = round_fewer c.args.f.now c.args.order.now c.requires.begun c.requires.ordered c.loop-f.f c.loop-f.invariant c.loop-f-test.true c.decide-decided.result.verdict c.decide-decided.result.cursor c.decide-decided.ensures.verdict c.decide-decided.ensures.passed c.round.new.f c.round.ensures
 
 pub loop-f-preserved : goal.loop-f-preserved
-loop-f-preserved c = running_on c.args.start c.args.order c.requires.begun c.requires.ordered c.loop-f.f c.loop-f.invariant c.loop-f-test.true c.decide-decided.result.verdict c.decide-decided.result.cursor c.decide-decided.ensures.verdict c.decide-decided.ensures.passed c.round-f.result c.round-f.ensures
+loop-f-preserved c = running_on c.args.f.now c.args.order.now c.requires.begun c.requires.ordered c.loop-f.f c.loop-f.invariant c.loop-f-test.true c.decide-decided.result.verdict c.decide-decided.result.cursor c.decide-decided.ensures.verdict c.decide-decided.ensures.passed c.round.new.f c.round.ensures
 
 pub returns : goal.returns
 returns c = sym (no_more_rounds own_path own_path_kept (filling c.loop-f.f) (omega (arith, c.loop-f.invariant.standing.counted, c.loop-f-test.false))) ∙ c.loop-f.invariant.same

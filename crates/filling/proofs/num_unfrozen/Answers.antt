@@ -1,23 +1,11 @@
--- `num_unfrozen` counts: what is counted and what the rest of the seats hold make up the whole. Assumes nothing.
-use mathlib.Core.Path.{ap}
-use mathlib.Core.Bool.{true, false}
-use lib.ListN.{drop_of_length-le}
-use Rattle.rules.specs.declared.Seat.{Seat}
-use Rattle.rules.specs.Lists.{count}
-use Rattle.rules.proofs.Steps.{count_by}
-use native.Mathlib.Omega.{arith}
-use Rattle.filling.proofs.num_unfrozen.Goals.{then-s, else-s}
+-- `num_unfrozen` counts by the library, which counts as the definition does. Assumes nothing.
+use mathlib.Core.Path.{◌≡◌, refl, ◌∙◌}
+use Rattle.std.proofs.Common.{rules}
+use Rattle.std.specs.List.{count_by}
+use Rattle.rules.proofs.Chains.{count_is}
 use Rattle.filling.proofs.num_unfrozen.Goals as goal
 
-pub loop-i-preserved : goal.loop-i-preserved
-loop-i-preserved c =
-    let at = count_by (λ (s : Seat). s.unfrozen) c.args.seats c.loop-i.i _ in
-    elim c.if-s.branch [
-      | then-s w ↦ omega (arith, at true w.if-s.true (omega arith))
-      | else-s w ↦ omega (arith, at false w.if-s.false (omega arith))
-    ]
-
-pub returns : goal.returns
-unfolding count
-returns c =
-    let end = drop_of_length-le c.args.seats {i = c.loop-i.i} (omega arith) in record { exactly = omega (arith, ap (count (λ (s : Seat). s.unfrozen)) end); bounded = omega arith }
+pub returns-clause-exactly : goal.returns-clause-exactly
+returns-clause-exactly c =
+    let counted : c.count.result ≡ count_by (λ s. s.unfrozen) c.args.seats.now = search rules in
+    counted ∙ count_is (λ s. refl) _

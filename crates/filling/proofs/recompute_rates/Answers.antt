@@ -10,4 +10,4 @@ use Rattle.filling.proofs.recompute_rates.Goals as goal
 pub returns : goal.returns
 unfolding recompute_rates
 returns c =
-    let whole : filling c.fill-done.result ≡ recompute_rates own_path c.args.edges c.args.in_flight = c.fill-done.ensures ∙ ap (λ (g : Filling). rounds_until own_path (num_unfrozen g) g) c.start-f.ensures.same in record { transfers = c.transfers.ensures ∙ ap (λ (g : Filling). map (λ (s : Seat). s.transfer) g.seats) whole; rounds = ap (λ (g : Filling). g.rounds) whole }
+    let whole : filling c.fill.new.f ≡ recompute_rates own_path c.args.edges.now c.args.in_flight.now = c.fill.ensures ∙ ap (λ (g : Filling). rounds_until own_path (num_unfrozen g) g) c.start-f.ensures.same in record { transfers = c.transfers.ensures ∙ ap (λ (g : Filling). map (λ (s : Seat). s.transfer) g.seats) whole; rounds = ap (λ (g : Filling). g.rounds) whole }
