@@ -8,14 +8,8 @@ use Rattle.filling.proofs.Running.{running_starts, running_comes, running_loaded
 use native.Mathlib.Omega.{arith}
 use Rattle.filling.proofs.fill.Goals as goal
 
-pub loop-f-init : goal.loop-f-init
-loop-f-init c = running_starts c.args.f.now c.args.order.now c.requires.begun c.requires.ordered
-
 pub decide-decided-requires : goal.decide-decided-requires
 decide-decided-requires c = record { standing = c.loop-f.invariant.standing; coming = running_comes c.args.f.now c.args.order.now c.requires.begun c.requires.ordered c.loop-f.f c.loop-f.invariant; loaded = running_loaded c.args.f.now c.args.order.now c.requires.begun c.requires.ordered c.loop-f.f c.loop-f.invariant c.loop-f-test.true }
-
-pub round-requires : goal.round-requires
-round-requires c = record { standing = c.loop-f.invariant.standing; few = omega (arith, c.loop-f.invariant.few, c.loop-f-test.true) }
 
 pub loop-f-smaller : goal.loop-f-smaller
 loop-f-smaller c = round_fewer c.args.f.now c.args.order.now c.requires.begun c.requires.ordered c.loop-f.f c.loop-f.invariant c.loop-f-test.true c.decide-decided.result.verdict c.decide-decided.result.cursor c.decide-decided.ensures.verdict c.decide-decided.ensures.passed c.round.new.f c.round.ensures
