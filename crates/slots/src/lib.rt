@@ -16,64 +16,46 @@ pub enum Lookup {
 }
 
 // The lowest slot that holds the transfer with that id.
-pub fn find(in_flight: [Transfer; 256], id: u32) -> Lookup
-    ensures { result ≡ lookup id in_flight }
+pub fn find(in_flight: &[Transfer; 256], id: u32) -> Lookup
+    ensures { result ≡ lookup id in_flight.now }
 {
-    let mut i: usize = 0;
-    while i < 256 {
-        let t = in_flight[i];
-        if has_id(t, id) {
-            return Lookup::Slot(i);
-        }
-        i += 1;
-    }
-    Lookup::Nowhere
+    in_flight
+        .iter()
+        .position(|t| has_id(*t, id))
+        .map_or(Lookup::Nowhere, Lookup::Slot)
 }
 
 // The transfer with that id, or the blank where none is in flight.
-pub fn of_id(in_flight: [Transfer; 256], id: u32) -> Transfer
-    ensures { result ≡ of_id id free (λ t. t) in_flight }
+pub fn of_id(in_flight: &[Transfer; 256], id: u32) -> Transfer
+    ensures { result ≡ of_id id free (λ t. t) in_flight.now }
 {
-    let Lookup::Slot(i) = find(in_flight, id) else {
-        return Transfer::free();
-    };
-    let t = in_flight[i];
-    t
+    match find(in_flight, id) {
+        Lookup::Slot(i) => in_flight[i],
+        Lookup::Nowhere => Transfer::free(),
+    }
 }
 
 // The lowest slot that holds nobody, where not all are taken.
-pub fn free_slot(in_flight: [Transfer; 256]) -> usize
-    requires { count (λ t. t.taken) in_flight < 256 }
-    ensures lowest { result ≡ first_free in_flight }
+pub fn free_slot(in_flight: &[Transfer; 256]) -> usize
+    requires { count (λ t. t.taken) in_flight.now < 256 }
+    ensures lowest { result ≡ first_free in_flight.now }
     ensures bounded { result < 256 }
 {
-    let mut i: usize = 0;
-    while in_flight[i].taken {
-        i += 1;
-    }
-    i
+    in_flight.iter().position(|t| !t.taken).unwrap()
 }
 
 // How many slots hold a transfer.
-pub fn num_taken(in_flight: [Transfer; 256]) -> usize
-    ensures exactly { result ≡ count (λ t. t.taken) in_flight }
+pub fn num_taken(in_flight: &[Transfer; 256]) -> usize
+    ensures exactly { result ≡ count (λ t. t.taken) in_flight.now }
     ensures bounded { result ≤ 256 }
 {
-    let mut n: usize = 0;
-    let mut i: usize = 0;
-    while i < 256 {
-        let t = in_flight[i];
-        if t.taken {
-            n += 1;
-        }
-        i += 1;
-    }
-    n
+    in_flight.iter().filter(|t| t.taken).count()
 }
 
 // Whether a slot holds the transfer with that id.
+#[tactic(auto, unfolding(rules::specs::Records::has_id))]
 fn has_id(t: Transfer, id: u32) -> bool
     ensures { result ≡ has_id id t }
 {
-    if t.taken { t.id == id } else { false }
+    t.taken && t.id == id
 }

@@ -1,35 +1,28 @@
--- `free_slot` passes over taken slots; not all are taken, so it stays inside the table. Assumes nothing.
+-- `free_slot` is the library's search of a slice, which finds a slot, since not all are taken. Assumes nothing.
+use mathlib.Core.Path.{◌≡◌, refl, sym, ◌∙◌}
+use mathlib.Core.Bool.{not}
 use native.Mathlib.Omega.{arith}
-use mathlib.Core.Bool.{true, false}
-use mathlib.Core.List.{List}
-use Prim.Native.Nat.{ℕ}
+use borrow.Author.Tests.{tests}
+use Rattle.std.proofs.Common.{rules, Some}
+use Rattle.std.specs.List.{position}
+use Rattle.std.proofs.lemmas.Iterator.{YieldsList-from_slice}
+use Rattle.std.proofs.lemmas.Iterator.Search.{position_from_yields_List}
 use Rattle.rules.specs.declared.Transfer.{Transfer}
-use Rattle.rules.proofs.Steps.{count_by}
-use Rattle.slots.proofs.Lookups.{first_free_one}
+use Rattle.slots.specs.Lookup.{first_free}
+use Rattle.slots.proofs.Lookups.{first_free_is}
 use Rattle.slots.proofs.free_slot.Goals as goal
 
-pub loop-i-init : goal.loop-i-init
-loop-i-init c = omega arith
-
-pub offset_bounds-in_flight-i : goal.offset_bounds-in_flight-i
-offset_bounds-in_flight-i c = omega arith
-
-pub bounds-in_flight-i : goal.bounds-in_flight-i
-bounds-in_flight-i c = omega arith
-
-pub overflow_add-i : goal.overflow_add-i
-overflow_add-i c = omega arith
-
-pub loop-i-smaller : goal.loop-i-smaller
-loop-i-smaller c = omega arith
-
-pub loop-i-preserved : goal.loop-i-preserved
-loop-i-preserved c =
-    let slots : List Transfer = c.args.in_flight in
-    let i : ℕ = c.loop-i.i in
-    omega (arith, count_by (λ t. t.taken) slots i _ true c.loop-i-test.true (omega arith), first_free_one slots i _ (omega arith) true c.loop-i-test.true)
+pub unwrap-requires : goal.unwrap-requires
+unwrap-requires c =
+    let found : c.position.result ≡ position (λ (t : Transfer). not t.taken) c.args.in_flight.now =
+    position_from_yields_List (λ (t : Transfer). not t.taken) _ _ c.position.result c.position.ensures.ran (YieldsList-from_slice c.args.in_flight.now cc) (λ x b q k. search (rules, tests)) in
+    rw (found, (first_free_is c.args.in_flight.now (omega arith)).0) refl
 
 pub returns : goal.returns
 returns c =
-    let slots : List Transfer = c.args.in_flight in
-    let i : ℕ = c.loop-i.i in record { lowest = omega (arith, first_free_one slots i _ (omega arith) false c.loop-i-test.false); bounded = omega arith }
+    let found : c.position.result ≡ position (λ (t : Transfer). not t.taken) c.args.in_flight.now =
+    position_from_yields_List (λ (t : Transfer). not t.taken) _ _ c.position.result c.position.ensures.ran (YieldsList-from_slice c.args.in_flight.now cc) (λ x b q k. search (rules, tests)) in
+    let free = first_free_is c.args.in_flight.now (omega arith) in
+    let same : Some c.unwrap.result ≡ Some (first_free c.args.in_flight.now) = sym c.unwrap.ensures ∙ found ∙ free.0 in
+    let lowest : c.unwrap.result ≡ first_free c.args.in_flight.now = cc in
+    record { lowest = lowest; bounded = omega arith }
