@@ -1,23 +1,14 @@
 -- Each public contract decides its function: it says by an equation what comes back and what the buffer then holds. Assumes nothing.
 use mathlib.Core.Path.{◌≡◌, sym, ap, ◌∙◌}
-use Prim.Native.Nat.{ℕ}
-use lib.Ieee.{Float}
-use Rattle.totals.specs.declared.Counts.{Counts}
-use Rattle.totals.specs.declared.Bytes.{Bytes}
+use Rattle.totals.specs.declared.PerKind.{PerKind}
 use Rattle.flows.specs.Decided.{EachDecided}
 
 -- a struct of three is decided by its fields
-counts_same : {z z' : Counts} → z.worker ≡ z'.worker → z.handoff ≡ z'.handoff → z.write ≡ z'.write → z ≡ z'
-counts_same {z} {z'} a b c =
-    ap (λ (n : ℕ). record { worker = n; handoff = z.handoff; write = z.write }) a
-    ∙ ap (λ (n : ℕ). record { worker = z'.worker; handoff = n; write = z.write }) b
-    ∙ ap (λ (n : ℕ). record { worker = z'.worker; handoff = z'.handoff; write = n }) c
-
-bytes_same : {z z' : Bytes} → z.worker ≡ z'.worker → z.handoff ≡ z'.handoff → z.write ≡ z'.write → z ≡ z'
-bytes_same {z} {z'} a b c =
-    ap (λ (x : Float). record { worker = x; handoff = z.handoff; write = z.write }) a
-    ∙ ap (λ (x : Float). record { worker = z'.worker; handoff = x; write = z.write }) b
-    ∙ ap (λ (x : Float). record { worker = z'.worker; handoff = z'.handoff; write = x }) c
+kinds_same : {A : Type 0} {z z' : PerKind A} → z.worker ≡ z'.worker → z.handoff ≡ z'.handoff → z.write ≡ z'.write → z ≡ z'
+kinds_same {A} {z} {z'} a b c =
+    ap (λ (x : A). record { worker = x; handoff = z.handoff; write = z.write }) a
+    ∙ ap (λ (x : A). record { worker = z'.worker; handoff = x; write = z.write }) b
+    ∙ ap (λ (x : A). record { worker = z'.worker; handoff = z'.handoff; write = x }) c
 
 pub each_decided : EachDecided
 each_decided = record {
@@ -52,8 +43,8 @@ each_decided = record {
   num_uncollected = λ κs a z z' e e' p q. p ∙ sym q;
   peak_in_flight = λ κs a z z' e e' p q. p ∙ sym q;
   totals = λ κs a z z' e e' p q. p ∙ sym q;
-  submitted_counts = λ κs a z z' e e' p q. counts_same (p.0 ∙ sym q.0) (p.1.0 ∙ sym q.1.0) (p.1.1 ∙ sym q.1.1);
-  completed_counts = λ κs a z z' e e' p q. counts_same (p.0 ∙ sym q.0) (p.1.0 ∙ sym q.1.0) (p.1.1 ∙ sym q.1.1);
-  cancelled_counts = λ κs a z z' e e' p q. counts_same (p.0 ∙ sym q.0) (p.1.0 ∙ sym q.1.0) (p.1.1 ∙ sym q.1.1);
-  bytes_submitted = λ κs a z z' e e' p q. bytes_same (p.0 ∙ sym q.0) (p.1.0 ∙ sym q.1.0) (p.1.1 ∙ sym q.1.1);
+  submitted_counts = λ κs a z z' e e' p q. kinds_same (p.0 ∙ sym q.0) (p.1.0 ∙ sym q.1.0) (p.1.1 ∙ sym q.1.1);
+  completed_counts = λ κs a z z' e e' p q. kinds_same (p.0 ∙ sym q.0) (p.1.0 ∙ sym q.1.0) (p.1.1 ∙ sym q.1.1);
+  cancelled_counts = λ κs a z z' e e' p q. kinds_same (p.0 ∙ sym q.0) (p.1.0 ∙ sym q.1.0) (p.1.1 ∙ sym q.1.1);
+  bytes_submitted = λ κs a z z' e e' p q. kinds_same (p.0 ∙ sym q.0) (p.1.0 ∙ sym q.1.0) (p.1.1 ∙ sym q.1.1);
 }

@@ -74,6 +74,15 @@ nowhere id slots e = read_says id slots Nowhere e
 pub somewhere : (id : ℕ) (slots : List Transfer) (i : ℕ) → lookup id slots ≡ Slot i → Found id slots i
 somewhere id slots i e = let s = read_says id slots (Slot i) e in let p : s.0 ≡ i = omega (arith, s.1) in rw p at s.2
 
+abbrev pub is_slot : Lookup → Bool
+is_slot Nowhere = false
+is_slot (Slot i) = true
+
+-- whether someone has the id, by what a search says
+pub contains_by : (id : ℕ) (slots : List Transfer) (l : Lookup) → l ≡ lookup id slots → any (has_id id) slots ≡ is_slot l
+contains_by id slots Nowhere e = (nowhere id slots (sym e)).none_has
+contains_by id slots (Slot i) e = (somewhere id slots i (sym e)).some_has
+
 -- ---- what is asked of the transfer with an id
 
 -- who has an id is in flight under it

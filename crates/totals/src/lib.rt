@@ -4,24 +4,22 @@
 ghost use Rattle.std.specs.Prelude.{◌≡◌};
 ghost use Rattle.rules.specs.Records.{contains, num_in_flight};
 
-use rules::{Flows, Totals};
+use rules::{Flows, Tally, Totals};
 use slots::Lookup;
 
-// A number for each kind of owner.
+// One of a thing for each kind of owner.
 #[derive(Clone, Copy)]
-pub struct Counts {
-    pub worker: u64,
-    pub handoff: u64,
-    pub write: u64,
+pub struct PerKind<T> {
+    pub worker: T,
+    pub handoff: T,
+    pub write: T,
 }
 
+// A number for each kind of owner.
+pub type Counts = PerKind<u64>;
+
 // Bytes for each kind of owner.
-#[derive(Clone, Copy)]
-pub struct Bytes {
-    pub worker: f64,
-    pub handoff: f64,
-    pub write: f64,
-}
+pub type Bytes = PerKind<f64>;
 
 // ---- edges and transfers
 
@@ -33,23 +31,19 @@ pub fn num_edges(flows: Flows) -> usize
 }
 
 // Whether a transfer with that id is in flight.
+#[tactic(auto, using(slots::proofs::Found::contains_by), unfolding(rules::specs::Records::contains))]
 pub fn contains(flows: Flows, id: u32) -> bool
     ensures { result ≡ contains id flows }
 {
-    let in_flight = flows.in_flight;
-    let Lookup::Slot(_) = slots::find(in_flight, id) else {
-        return false;
-    };
-    true
+    matches!(slots::find(&flows.in_flight, id), Lookup::Slot(_))
 }
 
 // How many transfers are in flight.
+#[tactic(auto, unfolding(rules::specs::Records::num_in_flight))]
 pub fn num_in_flight(flows: Flows) -> usize
     ensures { result ≡ num_in_flight flows }
 {
-    let in_flight = flows.in_flight;
-    let taken = slots::num_taken(in_flight);
-    taken
+    slots::num_taken(&flows.in_flight)
 }
 
 // The most that were in flight at once.
@@ -90,12 +84,7 @@ pub fn submitted_counts(flows: Flows) -> Counts
     ensures handoff { result.handoff ≡ flows.totals.handoff.submitted }
     ensures write { result.write ≡ flows.totals.write.submitted }
 {
-    let totals = flows.totals;
-    Counts {
-        worker: totals.worker.submitted,
-        handoff: totals.handoff.submitted,
-        write: totals.write.submitted,
-    }
+    per_kind(flows.totals, |tally| tally.submitted)
 }
 
 // How many were completed.
@@ -104,12 +93,7 @@ pub fn completed_counts(flows: Flows) -> Counts
     ensures handoff { result.handoff ≡ flows.totals.handoff.completed }
     ensures write { result.write ≡ flows.totals.write.completed }
 {
-    let totals = flows.totals;
-    Counts {
-        worker: totals.worker.completed,
-        handoff: totals.handoff.completed,
-        write: totals.write.completed,
-    }
+    per_kind(flows.totals, |tally| tally.completed)
 }
 
 // How many were cancelled.
@@ -118,12 +102,7 @@ pub fn cancelled_counts(flows: Flows) -> Counts
     ensures handoff { result.handoff ≡ flows.totals.handoff.cancelled }
     ensures write { result.write ≡ flows.totals.write.cancelled }
 {
-    let totals = flows.totals;
-    Counts {
-        worker: totals.worker.cancelled,
-        handoff: totals.handoff.cancelled,
-        write: totals.write.cancelled,
-    }
+    per_kind(flows.totals, |tally| tally.cancelled)
 }
 
 // The sums of bytes submitted.
@@ -132,12 +111,7 @@ pub fn bytes_submitted(flows: Flows) -> Bytes
     ensures handoff { result.handoff ≡ flows.totals.handoff.bytes_submitted }
     ensures write { result.write ≡ flows.totals.write.bytes_submitted }
 {
-    let totals = flows.totals;
-    Bytes {
-        worker: totals.worker.bytes_submitted,
-        handoff: totals.handoff.bytes_submitted,
-        write: totals.write.bytes_submitted,
-    }
+    per_kind(flows.totals, |tally| tally.bytes_submitted)
 }
 
 // All that was counted, of each kind, with the peak.
@@ -145,4 +119,18 @@ pub fn totals(flows: Flows) -> Totals
     ensures { result ≡ flows.totals }
 {
     flows.totals
+}
+
+// What is read of the tally of each kind.
+fn per_kind<T, R: Fn(Tally) -> T>(totals: Totals, read: R) -> PerKind<T>
+    requires { R.IsAlwaysCallable read }
+    ensures worker { R.post read totals.worker result.worker }
+    ensures handoff { R.post read totals.handoff result.handoff }
+    ensures write { R.post read totals.write result.write }
+{
+    PerKind {
+        worker: read(totals.worker),
+        handoff: read(totals.handoff),
+        write: read(totals.write),
+    }
 }
