@@ -10,6 +10,7 @@ use rules::{Completion, Owner};
 // ---- owners
 
 // The number of an owner's kind, as lists have it.
+#[tactic(auto, unfolding(rules::specs::Records::owner_kind))]
 pub fn owner_kind(o: Owner) -> u32
     ensures { result ≡ owner_kind o }
 {
@@ -21,6 +22,7 @@ pub fn owner_kind(o: Owner) -> u32
 }
 
 // An owner's worker number, or 0.
+#[tactic(auto, unfolding(rules::specs::Records::owner_worker))]
 pub fn owner_worker(o: Owner) -> u32
     ensures { result ≡ owner_worker o }
 {
@@ -32,55 +34,35 @@ pub fn owner_worker(o: Owner) -> u32
 }
 
 // Whether two owners are one.
+#[tactic(auto, using(crate::proofs::Derived::owners_eq))]
 pub fn same_owner(a: Owner, b: Owner) -> bool
     ensures { result ≡ same_owner a b }
 {
-    if owner_kind(a) == owner_kind(b) {
-        owner_worker(a) == owner_worker(b)
-    } else {
-        false
-    }
+    a == b
 }
 
 // Whether one owner is listed before another.
+#[tactic(auto, using(crate::proofs::Derived::owners_lt))]
 pub fn owner_before(a: Owner, b: Owner) -> bool
     ensures { result ≡ owner_before a b }
 {
-    let kind = owner_kind(a);
-    let other = owner_kind(b);
-    if kind < other {
-        return true;
-    }
-    if kind == other {
-        owner_worker(a) < owner_worker(b)
-    } else {
-        false
-    }
+    a < b
 }
 
 // ---- completions
 
 // Whether one completion stands before another in the queue.
+#[tactic(auto, using(crate::proofs::Derived::completions_lt))]
 pub fn before(c: Completion, d: Completion) -> bool
     ensures { result ≡ before c d }
 {
-    let a = c.owner;
-    let b = d.owner;
-    if owner_before(a, b) {
-        return true;
-    }
-    if same_owner(a, b) { c.id < d.id } else { false }
+    c < d
 }
 
 // Whether two completions are one entry of the queue.
+#[tactic(auto, using(crate::proofs::Derived::completions_eq))]
 pub fn same_completion(c: Completion, d: Completion) -> bool
     ensures { result ≡ same_completion c d }
 {
-    let a = c.owner;
-    let b = d.owner;
-    if same_owner(a, b) {
-        c.id == d.id
-    } else {
-        false
-    }
+    c == d
 }
