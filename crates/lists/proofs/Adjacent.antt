@@ -1,20 +1,19 @@
--- In a table that is in order an owner's entries stand together, so an owner comes again further on exactly if the next entry is the owner's. Assumes nothing.
+-- In a queue that is in order an owner's entries stand together, so an owner comes again further on exactly if the next entry is the owner's. Assumes nothing.
 use mathlib.Core.Path.{◌≡◌, refl, sym, ap, ◌∙◌}
 use mathlib.Core.Logic.{⊎_elim}
 use mathlib.Core.Bool.{Bool, true, false, ◌||◌, cond, true≢false}
 use mathlib.Core.List.{List, [], ◌∷◌}
 use Prim.Native.Nat.{ℕ, suc, ◌+◌, ◌≤◌, ◌<◌}
 use native.Mathlib.Omega.{arith}
-use lib.ListN.{length, take, drop, get_or, length-drop}
-use lib.Seq.{get_or-take, get_or-drop}
+use lib.ListN.{length, drop, get_or, length-drop, drop_of_length-le}
+use lib.Seq.{get_or-drop}
 use Rattle.rules.specs.declared.Owner.{Owner}
 use Rattle.rules.specs.declared.Completion.{Completion}
 use Rattle.rules.specs.Lists.{any}
 use Rattle.rules.specs.Records.{blank_completion, owner_kind, same_owner, owner_before, before}
 use Rattle.rules.specs.Queue.{belongs, owners}
-use Rattle.rules.proofs.Steps.{get_d_any}
+use Rattle.rules.proofs.Steps.{drop_one, any_one, get_d_any}
 use Rattle.rules.specs.Invariant.{InOrder}
-use Rattle.queue.proofs.Taken.{length_taken, taken_one, taken_none}
 use Rattle.owners.proofs.Order.{same_owner_is, owner_before_is, before_is}
 
 -- ---- tests
@@ -50,44 +49,43 @@ owner_past a d e p q s =
 
 -- ---- neighbours
 
-module _ (table : List Completion) (n i : ℕ) (d : Completion) (order : InOrder n table) (l : n ≤ length table) where
-  ordered : (j k : ℕ) → j < k → k < n → before (get_or table j d) (get_or table k d) ≡ true
-  ordered j k h m = rw (get_d_any table j d blank_completion (omega arith), get_d_any table k d blank_completion (omega arith)) (order.ordered j k h m)
+module _ (list : List Completion) (i : ℕ) (d : Completion) (order : InOrder (length list) list) where
+  ordered : (j k : ℕ) → j < k → k < length list → before (get_or list j d) (get_or list k d) ≡ true
+  ordered j k h m = rw (get_d_any list j d blank_completion (omega arith), get_d_any list k d blank_completion (omega arith)) (order.ordered j k h m)
 
   -- past an entry of another owner the owner does not come again
-  later : i + 1 < n → same_owner (get_or table i d).owner (get_or table (i + 1) d).owner ≡ false → (k : ℕ) → k < length (drop (i + 1 + 1) (take n table)) → belongs (get_or table i d).owner (get_or (drop (i + 1 + 1) (take n table)) k d) ≡ false
+  later : i + 1 < length list → same_owner (get_or list i d).owner (get_or list (i + 1) d).owner ≡ false → (k : ℕ) → k < length (drop (i + 1 + 1) list) → belongs (get_or list i d).owner (get_or (drop (i + 1 + 1) list) k d) ≡ false
   unfolding belongs
   later h f k m =
-      let long = length_taken table n l in
-      let behind : i + 1 + 1 + k < n = omega (arith, length-drop (i + 1 + 1) (take n table)) in
-      rw (get_or-drop (i + 1 + 1) (take n table) k d, get_or-take n table (i + 1 + 1 + k) d behind)
-      (untrue _ (owner_past (get_or table i d).owner (get_or table (i + 1) d) (get_or table (i + 1 + 1 + k) d) (owner_first _ _ (ordered i (i + 1) (omega arith) h) f) (ordered (i + 1) (i + 1 + 1 + k) (omega arith) behind)))
+      let behind : i + 1 + 1 + k < length list = omega (arith, length-drop (i + 1 + 1) list) in
+      rw (get_or-drop (i + 1 + 1) list k d)
+      (untrue _ (owner_past (get_or list i d).owner (get_or list (i + 1) d) (get_or list (i + 1 + 1 + k) d) (owner_first _ _ (ordered i (i + 1) (omega arith) h) f) (ordered (i + 1) (i + 1 + 1 + k) (omega arith) behind)))
 
   -- THE LAW
-  pub comes_again : i + 1 < n → any (belongs (get_or table i d).owner) (drop (i + 1) (take n table)) ≡ same_owner (get_or table i d).owner (get_or table (i + 1) d).owner
+  pub comes_again : i + 1 < length list → any (belongs (get_or list i d).owner) (drop (i + 1) list) ≡ same_owner (get_or list i d).owner (get_or list (i + 1) d).owner
   unfolding any belongs
   comes_again h =
-      ap (any (belongs (get_or table i d).owner)) (taken_one table n (i + 1) d h l)
-      ∙ go (same_owner (get_or table i d).owner (get_or table (i + 1) d).owner) (λ f. any_none (belongs (get_or table i d).owner) (drop (i + 1 + 1) (take n table)) d (later h f))
+      any_one list (i + 1) d h (belongs (get_or list i d).owner)
+      ∙ go (same_owner (get_or list i d).owner (get_or list (i + 1) d).owner) (λ f. any_none (belongs (get_or list i d).owner) (drop (i + 1 + 1) list) d (later h f))
     where
-      go : (b : Bool) → (b ≡ false → any (belongs (get_or table i d).owner) (drop (i + 1 + 1) (take n table)) ≡ false) → (b || any (belongs (get_or table i d).owner) (drop (i + 1 + 1) (take n table))) ≡ b
+      go : (b : Bool) → (b ≡ false → any (belongs (get_or list i d).owner) (drop (i + 1 + 1) list) ≡ false) → (b || any (belongs (get_or list i d).owner) (drop (i + 1 + 1) list)) ≡ b
       go true k = refl
       go false k = k refl
 
 -- ---- the owners, one entry on
 
-module _ (table : List Completion) (n i : ℕ) where
-  pub comes_last : (o : Owner) → n ≤ i + 1 → any (belongs o) (drop (i + 1) (take n table)) ≡ false
+module _ (list : List Completion) (i : ℕ) where
+  pub comes_last : (o : Owner) → length list ≤ i + 1 → any (belongs o) (drop (i + 1) list) ≡ false
   unfolding any
-  comes_last o h = ap (any (belongs o)) (taken_none table n (i + 1) h)
+  comes_last o h = ap (any (belongs o)) (drop_of_length-le list h)
 
-  pub owners_by : (d : Completion) (b : Bool) → any (belongs (get_or table i d).owner) (drop (i + 1) (take n table)) ≡ b → i < n → n ≤ length table → owners (drop i (take n table)) ≡ cond b (owners (drop (i + 1) (take n table))) ((get_or table i d).owner ∷ owners (drop (i + 1) (take n table)))
+  pub owners_by : (d : Completion) (b : Bool) → any (belongs (get_or list i d).owner) (drop (i + 1) list) ≡ b → i < length list → owners (drop i list) ≡ cond b (owners (drop (i + 1) list)) ((get_or list i d).owner ∷ owners (drop (i + 1) list))
   unfolding owners
-  owners_by d b e h l = ap owners (taken_one table n i d h l) ∙ ap (λ (z : Bool). cond z (owners (drop (i + 1) (take n table))) ((get_or table i d).owner ∷ owners (drop (i + 1) (take n table)))) e
+  owners_by d b e h = ap owners (drop_one list i d h) ∙ ap (λ (z : Bool). cond z (owners (drop (i + 1) list)) ((get_or list i d).owner ∷ owners (drop (i + 1) list))) e
 
-  pub owners_none : n ≤ i → owners (drop i (take n table)) ≡ []
+  pub owners_none : length list ≤ i → owners (drop i list) ≡ []
   unfolding owners
-  owners_none h = ap owners (taken_none table n i h)
+  owners_none h = ap owners (drop_of_length-le list h)
 
 pub owners_few : (list : List Completion) → length (owners list) ≤ length list
 unfolding owners

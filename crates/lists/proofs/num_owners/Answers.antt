@@ -9,20 +9,14 @@ use Rattle.lists.proofs.Adjacent.{owners_by, owners_none}
 use Rattle.lists.proofs.num_owners.Goals.{then-not-comes_again, else-not-comes_again}
 use Rattle.lists.proofs.num_owners.Goals as goal
 
-pub loop-i-init : goal.loop-i-init
-loop-i-init c = (omega arith, omega arith, omega arith)
-
-pub comes_again-requires : goal.comes_again-requires
-comes_again-requires c = record { n_bound = omega arith; i_lt_n = omega arith; in_order = c.requires.in_order }
-
 pub loop-i-preserved : goal.loop-i-preserved
 loop-i-preserved c =
     elim c.if-not-comes_again.branch [
-      | then-not-comes_again w ↦ let one = owners_by c.args.completed c.args.n c.loop-i.i blank_completion false (sym c.comes_again.ensures ∙ w.if-not-comes_again.true) (omega arith) (omega arith) in
-          (omega arith, omega (arith, w.found-is), omega (arith, w.found-is, ap length one))
-      | else-not-comes_again w ↦ let none = owners_by c.args.completed c.args.n c.loop-i.i blank_completion true (sym c.comes_again.ensures ∙ w.if-not-comes_again.false) (omega arith) (omega arith) in
-          (omega arith, omega (arith, w.found-is), omega (arith, w.found-is, ap length none))
+      | then-not-comes_again w ↦ let one = owners_by c.args.waiting.now c.loop-i.i blank_completion false (sym c.comes_again.ensures ∙ w.if-not-comes_again.true) (omega arith) in
+          (omega (arith, w.found-is), omega (arith, w.found-is, ap length one))
+      | else-not-comes_again w ↦ let none = owners_by c.args.waiting.now c.loop-i.i blank_completion true (sym c.comes_again.ensures ∙ w.if-not-comes_again.false) (omega arith) in
+          (omega (arith, w.found-is), omega (arith, w.found-is, ap length none))
     ]
 
 pub returns : goal.returns
-returns c = let over = owners_none c.args.completed c.args.n c.loop-i.i (omega arith) in omega (arith, ap length over)
+returns c = let over = owners_none c.args.waiting.now c.loop-i.i (omega arith) in omega (arith, ap length over)

@@ -8,9 +8,6 @@ use Rattle.lists.proofs.Adjacent.{owners_few}
 use Rattle.lists.proofs.Listing.{owners_short, owners_all}
 use Rattle.lists.proofs.owners_with_completions.Goals as goal
 
-pub num_owners-found-requires : goal.num_owners-found-requires
-num_owners-found-requires c = record { n_bound = omega arith; in_order = c.requires.queue_ordered }
-
 pub overflow_mul-found : goal.overflow_mul-found
 overflow_mul-found c =
     let long = length_taken c.args.flows.completed c.args.flows.num_completed (omega arith) in
@@ -20,9 +17,6 @@ pub returns-then-out-found : goal.returns-then-out-found
 unfolding waiting
 returns-then-out-found c =
     let e = owners_short c.args.flows c.args.out.now c.num_owners-found.result c.num_owners-found.ensures (omega arith) in record { answer = rw e refl; buffer = rw e refl }
-
-pub write_owners-requires : goal.write_owners-requires
-write_owners-requires c = record { n_bound = omega arith; in_order = c.requires.queue_ordered; room = omega arith }
 
 pub returns : goal.returns
 unfolding waiting

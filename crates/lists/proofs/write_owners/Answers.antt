@@ -14,46 +14,35 @@ use Rattle.lists.proofs.Adjacent.{owners_by, owners_none}
 use Rattle.lists.proofs.write_owners.Goals.{then-not-comes_again, else-not-comes_again}
 use Rattle.lists.proofs.write_owners.Goals as goal
 
-pub loop-i-init : goal.loop-i-init
-loop-i-init c = (omega arith, omega arith, refl, omega arith, refl)
-
-pub comes_again-requires : goal.comes_again-requires
-comes_again-requires c = record { n_bound = omega arith; i_lt_n = omega arith; in_order = c.requires.in_order }
-
 pub bounds-out-k : goal.bounds-out-k
 bounds-out-k c =
-    let one = owners_by c.args.completed c.args.n c.loop-i.i blank_completion false (sym c.comes_again.ensures ∙ c.if-not-comes_again.true) (omega arith) (omega arith) in
+    let one = owners_by c.args.waiting.now c.loop-i.i blank_completion false (sym c.comes_again.ensures ∙ c.if-not-comes_again.true) (omega arith) in
     omega (arith, ap length one)
 
 pub bounds-out-k-then-not-comes_again : goal.bounds-out-k-then-not-comes_again
 bounds-out-k-then-not-comes_again c =
-    let one = owners_by c.args.completed c.args.n c.loop-i.i blank_completion false (sym c.comes_again.ensures ∙ c.if-not-comes_again.true) (omega arith) (omega arith) in
+    let one = owners_by c.args.waiting.now c.loop-i.i blank_completion false (sym c.comes_again.ensures ∙ c.if-not-comes_again.true) (omega arith) in
     simp length-set (omega (arith, ap length one))
 
 pub loop-i-preserved : goal.loop-i-preserved
 unfolding pairs
 loop-i-preserved c =
     elim c.if-not-comes_again.branch [
-      | then-not-comes_again w ↦ let one = owners_by c.args.completed c.args.n c.loop-i.i past_end false (rw (get_d_any c.args.completed c.loop-i.i past_end blank_completion (omega arith)) (sym c.comes_again.ensures ∙ w.if-not-comes_again.true)) (omega arith) (omega arith) in
+      | then-not-comes_again w ↦ let one = owners_by c.args.waiting.now c.loop-i.i past_end false (rw (get_d_any c.args.waiting.now c.loop-i.i past_end blank_completion (omega arith)) (sym c.comes_again.ensures ∙ w.if-not-comes_again.true)) (omega arith) in
           let room : c.loop-i.k + 1 < length c.loop-i.out = omega (arith, ap length one) in (
-            omega arith,
             omega (arith, w.k-is),
-            rw w.out-is (simp length-set c.loop-i.invariant.2),
+            rw w.out-is (simp length-set c.loop-i.invariant.1),
             rw w.out-is (simp length-set (omega (arith, w.k-is, ap length one))),
-            rw (w.out-is, w.k-is, written_two, ← c.loop-i.invariant.4, one, ← w.owner_kind-kind.ensures, ← w.owner_worker-worker.ensures) refl,
+            rw (w.out-is, w.k-is, written_two, ← c.loop-i.invariant.3, one, ← w.owner_kind.ensures, ← w.owner_worker.ensures) refl,
           )
-      | else-not-comes_again w ↦ let none = owners_by c.args.completed c.args.n c.loop-i.i blank_completion true (sym c.comes_again.ensures ∙ w.if-not-comes_again.false) (omega arith) (omega arith) in (
-        omega arith,
+      | else-not-comes_again w ↦ let none = owners_by c.args.waiting.now c.loop-i.i blank_completion true (sym c.comes_again.ensures ∙ w.if-not-comes_again.false) (omega arith) in (
         omega (arith, w.k-is),
-        rw w.out-is c.loop-i.invariant.2,
+        rw w.out-is c.loop-i.invariant.1,
         rw w.out-is (omega (arith, w.k-is, ap length none)),
-        rw (w.out-is, w.k-is, ← c.loop-i.invariant.4, none) refl,
+        rw (w.out-is, w.k-is, ← c.loop-i.invariant.3, none) refl,
       )
     ]
 
-pub shape_of-out : goal.shape_of-out
-shape_of-out c = c.loop-i.invariant.2
-
 pub returns : goal.returns
 unfolding pairs
-returns c = sym (written_none c.loop-i.k c.loop-i.out) ∙ (rw (owners_none c.args.completed c.args.n c.loop-i.i (omega arith)) at c.loop-i.invariant.4)
+returns c = sym (written_none c.loop-i.k c.loop-i.out) ∙ (rw (owners_none c.args.waiting.now c.loop-i.i (omega arith)) at c.loop-i.invariant.3)
