@@ -19,26 +19,23 @@ pub enum Counted {
 }
 
 // The crossings of each edge by the transfers in flight.
-pub fn edge_loads(in_flight: [Transfer; 256]) -> [usize; 64]
-    requires routes { Each (λ t. SoundRoute 64 t.path) free in_flight }
-    requires room { sum (map (λ t. length (own_path t)) in_flight) ≤ 2048 }
-    ensures { result ≡ loads in_flight }
+pub fn edge_loads(in_flight: &[Transfer; 256]) -> [usize; 64]
+    requires routes { Each (λ t. SoundRoute 64 t.path) free in_flight.now }
+    requires room { sum (map (λ t. length (own_path t)) in_flight.now) ≤ 2048 }
+    ensures { result ≡ loads in_flight.now }
 {
     loads_of(in_flight, Counted::InFlight)
 }
 
 // The crossings of each edge by some of the transfers.
-pub fn loads_of(in_flight: [Transfer; 256], who: Counted) -> [usize; 64]
-    requires routes { Each (λ t. SoundRoute 64 t.path) free in_flight }
-    requires room { sum (map (λ t. length (own_path t)) in_flight) ≤ 2048 }
-    ensures { result ≡ loads_by (counts who) in_flight }
+pub fn loads_of(in_flight: &[Transfer; 256], who: Counted) -> [usize; 64]
+    requires routes { Each (λ t. SoundRoute 64 t.path) free in_flight.now }
+    requires room { sum (map (λ t. length (own_path t)) in_flight.now) ≤ 2048 }
+    ensures { result ≡ loads_by (counts who) in_flight.now }
 {
-    let mut load: [usize; 64] = [0; 64];
-    let mut i: usize = 0;
-    while i < 256 {
-        let t = in_flight[i];
-        count(&mut load, t, who);
-        i += 1;
+    let mut load = [0; 64];
+    for t in in_flight {
+        count(&mut load, *t, who);
     }
     load
 }
@@ -61,23 +58,17 @@ fn count(load: &mut [usize], t: Transfer, who: Counted)
     ensures { load.new ≡ counted (counts who) load.old t }
 {
     if counts(who, t) {
-        let path = t.path;
-        let hops = path.hops;
-        let len = path.len;
-        paths::raise(load, &hops[..len]);
+        paths::raise(load, paths::hops(&t.path));
     }
 }
 
 // The load integrals after `dt` seconds, each edge crossed as often as its load says.
-pub fn gain_busy_all(edges: [Edge; 64], load: [usize; 64], dt: f64) -> [Edge; 64]
-    ensures { result ≡ map_from 0 (λ e edge. gain_busy dt (get_or load e 0) edge) edges }
+pub fn gain_busy_all(edges: &[Edge; 64], load: &[usize; 64], dt: f64) -> [Edge; 64]
+    ensures { result ≡ map_from 0 (λ e edge. gain_busy dt (get_or load.now e 0) edge) edges.now }
 {
-    let mut after = edges;
-    let mut e: usize = 0;
-    while e < 64 {
-        let edge = after[e];
-        after[e] = gain_busy(edge, load[e], dt);
-        e += 1;
+    let mut after = *edges;
+    for e in 0..64 {
+        after[e] = gain_busy(after[e], load[e], dt);
     }
     after
 }
@@ -87,11 +78,10 @@ fn gain_busy(edge: Edge, crossings: usize, dt: f64) -> Edge
     ensures { result ≡ gain_busy dt crossings edge }
 {
     if crossings == 0 {
-        edge
-    } else {
-        let mut after = edge;
-        after.busy_transfer_seconds = edge.busy_transfer_seconds
-            + doubles::whole(crossings as u64) * dt;
-        after
+        return edge;
+    }
+    Edge {
+        busy_transfer_seconds: edge.busy_transfer_seconds + doubles::whole(crossings as u64) * dt,
+        ..edge
     }
 }

@@ -2,20 +2,20 @@
 use mathlib.Core.Path.{sym}
 use native.Mathlib.Nat.{le_of_eq}
 use Rattle.rules.specs.Records.{own_path}
-use Rattle.paths.proofs.Routes.{known_route, known_more, route_length}
+use Rattle.paths.proofs.Routes.{known_route, known_more, route_fits}
 use Rattle.crossings.specs.Loads.{counted}
 use Rattle.crossings.proofs.count.Goals as goal
 
-pub slice_bounds-raise-end : goal.slice_bounds-raise-end
-slice_bounds-raise-end c = sym (route_length c.requires.path)
+pub hops-requires : goal.hops-requires
+hops-requires c = route_fits c.requires.path
 
 pub raise-requires : goal.raise-requires
 unfolding own_path
-raise-requires c = record { known = known_more (le_of_eq (sym c.requires.places)) (known_route c.requires.path); roomy = c.requires.roomy }
+raise-requires c = rw c.hops.ensures (record { known = known_more (le_of_eq (sym c.requires.places)) (known_route c.requires.path); roomy = c.requires.roomy })
 
 pub returns-then-counts : goal.returns-then-counts
 unfolding counted own_path
-returns-then-counts c = rw (← c.counts.ensures, c.if-counts.true) c.raise.ensures
+returns-then-counts c = rw (← c.counts.ensures, c.if-counts.true, ← c.hops.ensures) c.raise.ensures
 
 pub returns-else-counts : goal.returns-else-counts
 unfolding counted

@@ -16,5 +16,5 @@ pub returns-then-crossings-eq0 : goal.returns-then-crossings-eq0
 unfolding gain_busy
 returns-then-crossings-eq0 c = rw c.if-crossings-eq0.true
 
-pub returns-else-crossings-eq0 : goal.returns-else-crossings-eq0
-returns-else-crossings-eq0 c = rw (c.whole.ensures, crossed c.args.dt c.args.crossings c.args.edge c.if-crossings-eq0.false)
+pub returns : goal.returns
+returns c = rw (c.whole.ensures, crossed c.args.dt c.args.crossings c.args.edge c.if-crossings-eq0.false)
