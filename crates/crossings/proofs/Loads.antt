@@ -15,7 +15,7 @@ use Rattle.rules.specs.Clock.{crossings_by, counts_in_loads, edge_loads}
 use Rattle.rules.specs.Invariant.{Invariant}
 use Rattle.rules.proofs.Each.{each_same}
 use Rattle.rules.proofs.Crossings.{crossings_length}
-use Rattle.rules.proofs.Steps.{sum_map_one, length_map_from, getD_map_from}
+use Rattle.rules.proofs.Steps.{foldl_one, sum_map_one, length_map_from, getD_map_from}
 use Rattle.paths.specs.Known.{Roomy}
 use Rattle.paths.proofs.PerEdge.{times_more, length_crossing, crossing_at}
 use Rattle.crossings.specs.Loads.{counted, loads_by, loads}
@@ -23,7 +23,7 @@ use Rattle.rules.proofs.Numbered.{map_from_same, map_from_numbers}
 
 -- ---- what each place counts
 module _ (p : Transfer → Bool) where
-  pub length_counted : (load : List ℕ) (t : Transfer) → length (counted p load t) ≡ length load
+  length_counted : (load : List ℕ) (t : Transfer) → length (counted p load t) ≡ length load
   unfolding counted
   length_counted load t = go (p t)
     where
@@ -125,3 +125,14 @@ module _ (slots : List Transfer) (load : List ℕ) (i : ℕ) (d : Transfer) (h :
 
   pub room_next : (p : Transfer → Bool) → Room slots (counted p load (get_or slots i d)) (i + 1)
   room_next p = record { left = λ e. omega (arith, room.left e, counted_bound p load (get_or slots i d) e, sum_map_one slots i d h (λ t. length (own_path t))) }
+
+  -- one slot more, where b is what every test that is meant says of it
+  pub counted_next : {more : List ℕ} (whole : List ℕ) (Says : (Transfer → Bool) → Type 0) (b : Bool) → more ≡ cond b (at_each_crossing (own_path (get_or slots i d)) (λ n. n + 1) load) load
+      → ((p : Transfer → Bool) → Says p → b ≡ p (get_or slots i d))
+      → ((p : Transfer → Bool) → Says p → foldl (counted p) load (drop i slots) ≡ foldl (counted p) whole slots)
+      → ((p : Transfer → Bool) → Says p → foldl (counted p) more (drop (i + 1) slots) ≡ foldl (counted p) whole slots) × Room slots more (i + 1)
+  unfolding counted
+  counted_next whole Says b e says done = (
+    λ p s. rw (e, says p s) (sym (foldl_one slots i d h (counted p) load) ∙ done p s),
+    rw e (room_next (λ t. b)),
+  )

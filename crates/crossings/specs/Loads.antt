@@ -1,17 +1,9 @@
 -- The crossings of each edge, counted slot by slot. Definitions only.
-use Rattle.std.specs.Prelude.{ℕ, ◌+◌, Bool, cond, List, replicate}
+use Rattle.std.specs.Prelude.{ℕ, ◌+◌, ◌≡◌, Bool, cond, List, replicate}
 use Rattle.rules.specs.declared.Transfer.{Transfer}
 use Rattle.rules.specs.Lists.{at_each_crossing, map_from}
 use Rattle.rules.specs.Records.{max_edges, own_path}
 use Rattle.rules.specs.Clock.{crossings_by, counts_in_loads}
-use Rattle.rules.specs.Filling.{takes_part}
-use Rattle.crossings.specs.declared.Counted.{Counted}
-use Rattle.crossings.specs.declared.Counted.TheVariants.{InFlight, TakingPart}
-
--- Whose crossings are counted.
-unfoldable pub counts : Counted → Transfer → Bool
-counts InFlight = counts_in_loads
-counts TakingPart = takes_part
 
 -- The load of each edge, with a transfer's crossings counted where it passes the test.
 unfoldable pub counted : (Transfer → Bool) → List ℕ → Transfer → List ℕ
@@ -24,3 +16,7 @@ loads_by p slots = map_from 0 (λ e (n : ℕ). crossings_by p own_path slots e) 
 -- The crossings of each edge by all in flight.
 abbrev pub loads : List Transfer → List ℕ
 loads slots = loads_by counts_in_loads slots
+
+-- The loads are those by any test that says what calls answer, where `post t b` is that a call at t may answer b.
+abbrev pub CountsBy : (Transfer → Bool → Type 0) → List Transfer → List ℕ → Type 0
+CountsBy post slots load = (p : Transfer → Bool) → ((t : Transfer) (b : Bool) → post t b → b ≡ p t) → load ≡ loads_by p slots

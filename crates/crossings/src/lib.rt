@@ -6,17 +6,9 @@ ghost use Rattle.rules.specs.Lists.{Each, map_from, sum};
 ghost use Rattle.rules.specs.Records.{free, own_path};
 ghost use Rattle.rules.specs.Clock.{gain_busy};
 ghost use Rattle.rules.specs.Invariant.{SoundRoute};
-ghost use Rattle.paths.specs.Known.{Roomy};
-ghost use Rattle.crossings.specs.Loads.{counts, counted, loads_by, loads};
+ghost use Rattle.crossings.specs.Loads.{CountsBy, loads};
 
 use rules::{Edge, Transfer};
-
-// Whose crossings are counted in a load: everybody's in flight, or theirs alone who take part in a filling.
-#[derive(Clone, Copy)]
-pub enum Counted {
-    InFlight,
-    TakingPart,
-}
 
 // The crossings of each edge by the transfers in flight.
 pub fn edge_loads(in_flight: &[Transfer; 256]) -> [usize; 64]
@@ -24,42 +16,23 @@ pub fn edge_loads(in_flight: &[Transfer; 256]) -> [usize; 64]
     requires room { sum (map (λ t. length (own_path t)) in_flight.now) ≤ 2048 }
     ensures { result ≡ loads in_flight.now }
 {
-    loads_of(in_flight, Counted::InFlight)
+    loads_of(in_flight, transfers::counts_in_loads)
 }
 
-// The crossings of each edge by some of the transfers.
-pub fn loads_of(in_flight: &[Transfer; 256], who: Counted) -> [usize; 64]
+// The crossings of each edge by the transfers that pass a test.
+pub fn loads_of<F: Fn(Transfer) -> bool>(in_flight: &[Transfer; 256], counts: F) -> [usize; 64]
+    requires callable { F.IsAlwaysCallable counts }
     requires routes { Each (λ t. SoundRoute 64 t.path) free in_flight.now }
     requires room { sum (map (λ t. length (own_path t)) in_flight.now) ≤ 2048 }
-    ensures { result ≡ loads_by (counts who) in_flight.now }
+    ensures { CountsBy (F.post counts) in_flight.now result }
 {
     let mut load = [0; 64];
     for t in in_flight {
-        count(&mut load, *t, who);
+        if counts(*t) {
+            paths::raise(&mut load, paths::hops(&t.path));
+        }
     }
     load
-}
-
-// Whether a transfer is one of those counted.
-fn counts(who: Counted, t: Transfer) -> bool
-    ensures { result ≡ counts who t }
-{
-    match who {
-        Counted::InFlight => transfers::counts_in_loads(t),
-        Counted::TakingPart => transfers::takes_part(t),
-    }
-}
-
-// One transfer's crossings counted.
-fn count(load: &mut [usize], t: Transfer, who: Counted)
-    requires places { length load.old ≡ 64 }
-    requires path { SoundRoute 64 t.path }
-    requires roomy { Roomy (own_path t) load.old }
-    ensures { load.new ≡ counted (counts who) load.old t }
-{
-    if counts(who, t) {
-        paths::raise(load, paths::hops(&t.path));
-    }
 }
 
 // The load integrals after `dt` seconds, each edge crossed as often as its load says.

@@ -1,7 +1,7 @@
 -- `edge_loads` counts all in flight. Assumes nothing.
-use Rattle.crossings.specs.Loads.{counts}
+use Rattle.std.proofs.Common.{rules}
+use Rattle.rules.specs.Clock.{counts_in_loads}
 use Rattle.crossings.proofs.edge_loads.Goals as goal
 
 pub returns : goal.returns
-unfolding counts
-returns c = c.loads_of.ensures
+returns c = c.loads_of.ensures counts_in_loads (λ t b k. search rules)
