@@ -2,6 +2,7 @@
 #![tactic(auto)]
 
 ghost use Rattle.std.specs.Prelude.{◌≡◌, cond, ℕ, ◌-◌, ◌≤◌, ◌<◌, ltb, length, get_or};
+ghost use Rattle.std.specs.List.{position_or_len};
 ghost use Rattle.rules.specs.Lists.{at_each_crossing};
 ghost use Rattle.rules.specs.Records.{own_path};
 ghost use Rattle.rules.specs.Filling.{tighter_share, blank_share, smallest_share, freezes, spend, smallest_cap};
@@ -66,17 +67,23 @@ fn against(best: Share, e: usize, residual: f64, load: usize) -> Share
     }
 }
 
-// The share of the lowest edge with load; there is one.
+// The lowest edge with load; there is one.
+fn first_loaded(load: &[usize]) -> usize
+    requires { Loaded load.now }
+    ensures within { result < length load.now }
+    ensures first { result ≡ position_or_len (ltb 0) load.now }
+{
+    load.iter().position(|n| 0 < *n).unwrap()
+}
+
+// The share of the lowest edge with load.
 fn first_share(residual: &[f64], load: &[usize]) -> Share
     requires same { length load.now ≡ length residual.now }
     requires few { (e : ℕ) → get_or load.now e 0 ≤ 2048 }
     requires loaded { Loaded load.now }
     ensures { result ≡ get_or (shares_by load.now 0 residual.now) 0 blank_share }
 {
-    let mut first: usize = 0;
-    while load[first] == 0 {
-        first += 1;
-    }
+    let first = first_loaded(load);
     share(first, residual[first], load[first])
 }
 
