@@ -3,9 +3,6 @@ use mathlib.Core.Path.{◌∙◌}
 use Rattle.rounds.proofs.Searching.{first_share_is}
 use Rattle.rounds.proofs.first_share.Goals as goal
 
-pub share-requires : goal.share-requires
-share-requires c = c.requires.few c.first_loaded-first.result
-
 pub returns : goal.returns
 returns c =
     c.share.ensures ∙ rw c.first_loaded-first.ensures.first (first_share_is c.args.load.now c.args.residual.now _ c.requires.same c.requires.loaded)

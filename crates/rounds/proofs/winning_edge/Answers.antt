@@ -7,21 +7,9 @@ use Rattle.rounds.proofs.Searching.{best_one}
 use native.Mathlib.Omega.{arith}
 use Rattle.rounds.proofs.winning_edge.Goals as goal
 
-pub first_share-best-requires : goal.first_share-best-requires
-first_share-best-requires c = c.requires
-
 pub loop-e-init : goal.loop-e-init
 unfolding smallest_share
 loop-e-init c = rw c.first_share-best.ensures refl
-
-pub offset_bounds-load-e : goal.offset_bounds-load-e
-offset_bounds-load-e c = omega (arith, c.requires.same)
-
-pub bounds-load-e : goal.bounds-load-e
-bounds-load-e c = omega (arith, c.requires.same)
-
-pub against-best-requires : goal.against-best-requires
-against-best-requires c = c.requires.few c.loop-e.e
 
 pub loop-e-preserved : goal.loop-e-preserved
 loop-e-preserved c =
