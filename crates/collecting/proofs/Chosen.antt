@@ -4,27 +4,19 @@ use mathlib.Core.Bool.{Bool, true, false, cond}
 use mathlib.Core.List.{List, [], ◌∷◌}
 use Prim.Native.Nat.{ℕ, ◌+◌, ◌≤◌, ◌<◌}
 use native.Mathlib.Omega.{arith}
-use lib.ListN.{length, take, drop, get_or}
+use lib.ListN.{length, drop, get_or, drop_of_length-le}
 use Rattle.rules.specs.Lists.{count, those}
-use Rattle.queue.proofs.Taken.{taken_one, taken_none}
+use Rattle.rules.proofs.Steps.{drop_one}
 
 module _ {A : Type 0} (p : A → Bool) where
   -- one entry on, by the test's value there
-  pub those_by : (table : List A) (n i : ℕ) (d : A) (b : Bool) → p (get_or table i d) ≡ b → i < n → n ≤ length table → those p (drop i (take n table)) ≡ cond b (get_or table i d ∷ those p (drop (i + 1) (take n table))) (those p (drop (i + 1) (take n table)))
+  pub those_by : (list : List A) (i : ℕ) (d : A) (b : Bool) → p (get_or list i d) ≡ b → i < length list → those p (drop i list) ≡ cond b (get_or list i d ∷ those p (drop (i + 1) list)) (those p (drop (i + 1) list))
   unfolding those
-  those_by table n i d b e h l = ap (those p) (taken_one table n i d h l) ∙ ap (λ (z : Bool). cond z (get_or table i d ∷ those p (drop (i + 1) (take n table))) (those p (drop (i + 1) (take n table)))) e
+  those_by list i d b e h = ap (those p) (drop_one list i d h) ∙ ap (λ (z : Bool). cond z (get_or list i d ∷ those p (drop (i + 1) list)) (those p (drop (i + 1) list))) e
 
-  pub those_none : (table : List A) (n i : ℕ) → n ≤ i → those p (drop i (take n table)) ≡ []
+  pub those_none : (list : List A) (i : ℕ) → length list ≤ i → those p (drop i list) ≡ []
   unfolding those
-  those_none table n i h = ap (those p) (taken_none table n i h)
-
-  pub count_by : (table : List A) (n i : ℕ) (d : A) (b : Bool) → p (get_or table i d) ≡ b → i < n → n ≤ length table → count p (drop i (take n table)) ≡ cond b 1 0 + count p (drop (i + 1) (take n table))
-  unfolding count
-  count_by table n i d b e h l = ap (count p) (taken_one table n i d h l) ∙ ap (λ (z : Bool). cond z 1 0 + count p (drop (i + 1) (take n table))) e
-
-  pub count_none : (table : List A) (n i : ℕ) → n ≤ i → count p (drop i (take n table)) ≡ 0
-  unfolding count
-  count_none table n i h = ap (count p) (taken_none table n i h)
+  those_none list i h = ap (those p) (drop_of_length-le list h)
 
   pub length_those : (xs : List A) → length (those p xs) ≡ count p xs
   unfolding those count

@@ -1,7 +1,7 @@
 // Collecting: an owner takes what waits for it out of the queue, into a lent buffer.
 #![tactic(auto)]
 
-ghost use Rattle.std.specs.Prelude.{◌≡◌, not, map, ◌≤◌, take, length};
+ghost use Rattle.std.specs.Prelude.{◌≡◌, not, map, ◌≤◌, length};
 ghost use Rattle.rules.specs.Lists.{count, those, write_front};
 ghost use Rattle.rules.specs.Queue.{belongs, take_completed};
 ghost use Rattle.rules.specs.Invariant.{Invariant};
@@ -17,95 +17,74 @@ pub fn take_completed(flows: Flows, owner: Owner, out: &mut [u32]) -> Outcome
     ensures buffer { out.new ≡ (take_completed owner flows out.old).buffer }
     ensures sound { Invariant result.flows }
 {
-    let completed = flows.completed;
-    let n = flows.num_completed;
-    let waiting = num_waiting(completed, n, owner);
-    if waiting == 0 {
+    let waiting = &flows.completed[..flows.num_completed];
+    let found = num_waiting(waiting, owner);
+    if found == 0 {
         return Outcome {
             answer: Answer::Nothing,
-            flows: flows,
+            flows,
         };
     }
-    if out.len() < waiting {
+    if out.len() < found {
         return arguments::refused(flows, 8);
     }
-    write_ids(completed, n, owner, out);
-    let left = without(completed, n, owner);
-    let entries = left.entries;
-    let mut next = flows;
-    next.completed = entries;
-    next.num_completed = left.count;
+    write_ids(waiting, owner, out);
+    let Table { entries, count } = without(waiting, owner);
     Outcome {
-        answer: Answer::Listed(waiting),
-        flows: next,
+        answer: Answer::Listed(found),
+        flows: Flows {
+            completed: entries,
+            num_completed: count,
+            ..flows
+        },
     }
 }
 
-// How many of the first n entries wait for an owner.
-fn num_waiting(completed: [Completion; 256], n: usize, owner: Owner) -> usize
-    requires { n ≤ 256 }
-    ensures { result ≡ count (belongs owner) (take n completed) }
+// How many entries wait for an owner.
+fn num_waiting(waiting: &[Completion], owner: Owner) -> usize
+    ensures { result ≡ count (belongs owner) waiting.now }
 {
-    let mut waiting: usize = 0;
-    let mut i: usize = 0;
-    while i < n {
-        let c = completed[i];
-        if belongs(owner, c) {
-            waiting += 1;
-        }
-        i += 1;
-    }
-    waiting
+    waiting.iter().filter(|c| belongs(owner, **c)).count()
 }
 
 // Whether a completion is the owner's.
+#[tactic(auto, unfolding(rules::specs::Queue::belongs))]
 fn belongs(owner: Owner, c: Completion) -> bool
     ensures { result ≡ belongs owner c }
 {
-    let other = c.owner;
-    owners::same_owner(owner, other)
+    owners::same_owner(owner, c.owner)
 }
 
-// The owner's ids at the front of the buffer, in the order of the table.
-fn write_ids(completed: [Completion; 256], n: usize, owner: Owner, out: &mut [u32])
-    requires n_bound { n ≤ 256 }
-    requires room { count (belongs owner) (take n completed) ≤ length out.old }
-    ensures { out.new ≡ write_front (map (λ c. c.id) (those (belongs owner) (take n completed))) out.old }
+// The owner's ids at the front of the buffer, in the order of the queue.
+fn write_ids(waiting: &[Completion], owner: Owner, out: &mut [u32])
+    requires room { count (belongs owner) waiting.now ≤ length out.old }
+    ensures { out.new ≡ write_front (map (λ c. c.id) (those (belongs owner) waiting.now)) out.old }
 {
     let mut k: usize = 0;
-    let mut i: usize = 0;
-    while i < n {
-        let c = completed[i];
-        if belongs(owner, c) {
+    for c in waiting {
+        if belongs(owner, *c) {
             out[k] = c.id;
             k += 1;
         }
-        i += 1;
     }
 }
 
-// The table without the owner's entries: the others close up, with blanks behind.
-fn without(completed: [Completion; 256], n: usize, owner: Owner) -> Table
-    requires { n ≤ 256 }
-    ensures { result ≡ table_of (those (λ c. not (belongs owner c)) (take n completed)) }
+// A table without the owner's entries: the others close up, with blanks behind.
+fn without(waiting: &[Completion], owner: Owner) -> Table
+    requires { length waiting.now ≤ 256 }
+    ensures { result ≡ table_of (those (λ c. not (belongs owner c)) waiting.now) }
 {
     let none = Completion {
         owner: Owner::Handoff,
         id: 0,
     };
     let mut entries = [none; 256];
-    let mut k: usize = 0;
-    let mut i: usize = 0;
-    while i < n {
-        let c = completed[i];
-        if !belongs(owner, c) {
-            entries[k] = c;
-            k += 1;
+    let mut count: usize = 0;
+    for c in waiting {
+        if !belongs(owner, *c) {
+            entries[count] = *c;
+            count += 1;
         }
-        i += 1;
     }
-    Table {
-        entries: entries,
-        count: k,
-    }
+    Table { entries, count }
 }

@@ -8,17 +8,17 @@ use Rattle.collecting.proofs.Kept.{with_sound}
 use Rattle.collecting.proofs.Taking.{take_nothing, take_short, take_all}
 use Rattle.collecting.proofs.take_completed.Goals as goal
 
-pub returns-then-waiting-eq0 : goal.returns-then-waiting-eq0
+pub returns-then-found-eq0 : goal.returns-then-found-eq0
 unfolding waiting
-returns-then-waiting-eq0 c =
-    let e = take_nothing c.args.owner c.args.flows c.args.out.now c.num_waiting-waiting.result c.num_waiting-waiting.ensures (omega arith) in let both = with_sound c.args.owner c.args.flows c.args.out.now c.requires (rw e refl) (rw e refl) in record { exactly = both.0; buffer = both.1.0; sound = both.1.1 }
+returns-then-found-eq0 c =
+    let e = take_nothing c.args.owner c.args.flows c.args.out.now c.num_waiting-found.result c.num_waiting-found.ensures (omega arith) in let both = with_sound c.args.owner c.args.flows c.args.out.now c.requires (rw e refl) (rw e refl) in record { exactly = both.0; buffer = both.1.0; sound = both.1.1 }
 
-pub returns-then-out-waiting : goal.returns-then-out-waiting
+pub returns-then-out-found : goal.returns-then-out-found
 unfolding waiting
-returns-then-out-waiting c =
-    let e = take_short c.args.owner c.args.flows c.args.out.now c.num_waiting-waiting.result c.num_waiting-waiting.ensures (omega arith) (omega arith) in let both = with_sound c.args.owner c.args.flows c.args.out.now c.requires (rw (c.refused.ensures, e) refl) (rw e refl) in record { exactly = both.0; buffer = both.1.0; sound = both.1.1 }
+returns-then-out-found c =
+    let e = take_short c.args.owner c.args.flows c.args.out.now c.num_waiting-found.result c.num_waiting-found.ensures (omega arith) (omega arith) in let both = with_sound c.args.owner c.args.flows c.args.out.now c.requires (rw (c.refused.ensures, e) refl) (rw e refl) in record { exactly = both.0; buffer = both.1.0; sound = both.1.1 }
 
 pub returns : goal.returns
 unfolding waiting with_waiting collected ids_for table_of
 returns c =
-    let e = take_all c.args.owner c.args.flows c.args.out.now c.num_waiting-waiting.result c.num_waiting-waiting.ensures (omega arith) (omega arith) in let both = with_sound c.args.owner c.args.flows c.args.out.now c.requires (rw (e, c.without-left.ensures) refl) (rw e c.write_ids.ensures) in record { exactly = both.0; buffer = both.1.0; sound = both.1.1 }
+    let e = take_all c.args.owner c.args.flows c.args.out.now c.num_waiting-found.result c.num_waiting-found.ensures (omega arith) (omega arith) in let both = with_sound c.args.owner c.args.flows c.args.out.now c.requires (rw (e, c.without-count.ensures) refl) (rw e c.write_ids.ensures) in record { exactly = both.0; buffer = both.1.0; sound = both.1.1 }

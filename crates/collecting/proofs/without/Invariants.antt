@@ -2,8 +2,8 @@
 use mathlib.Core.Path.{◌≡◌}
 use mathlib.Core.Bool.{not}
 use mathlib.Core.List.{List}
-use Prim.Native.Nat.{◌+◌, ◌-◌, ◌≤◌}
-use lib.ListN.{length, take, drop}
+use Prim.Native.Nat.{◌+◌, ◌≤◌}
+use lib.ListN.{length, drop}
 use Rattle.rules.specs.declared.Owner.{Owner}
 use Rattle.rules.specs.declared.Completion.{Completion}
 use Rattle.rules.specs.Lists.{those, write_front}
@@ -14,8 +14,5 @@ use Rattle.collecting.proofs.without.Given as goal
 abbrev pub others : Owner → List Completion → List Completion
 others owner list = those (λ c. not (belongs owner c)) list
 
-abbrev pub invariant-loop-i : goal.invariant-loop-i
-invariant-loop-i l = (l.i ≤ l.n) × (l.k ≤ l.i) × (length l.entries ≡ 256) × (l.k + length (others l.owner (drop l.i (take l.n l.completed))) ≡ length (others l.owner (take l.n l.completed))) × (written l.k (others l.owner (drop l.i (take l.n l.completed))) l.entries ≡ write_front (others l.owner (take l.n l.completed)) l.initial.entries)
-
-abbrev pub decreases-loop-i : goal.decreases-loop-i
-decreases-loop-i l = l.n - l.i
+abbrev pub invariant-loop-c : goal.invariant-loop-c
+invariant-loop-c l = (l.count ≤ l.c-index) × (length l.entries ≡ 256) × (l.count + length (others l.owner (drop l.c-index l.waiting)) ≡ length (others l.owner l.waiting)) × (written l.count (others l.owner (drop l.c-index l.waiting)) l.entries ≡ write_front (others l.owner l.waiting) l.initial.entries)
