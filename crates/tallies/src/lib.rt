@@ -2,6 +2,7 @@
 #![tactic(auto)]
 
 ghost use Rattle.std.specs.Prelude.{◌<◌, ◌^◌, ◌+◌, ◌≡◌};
+ghost use Rattle.rules.specs.declared.Tally.{Tally};
 ghost use Rattle.rules.specs.Records.{tally_of, on_tally};
 ghost use Rattle.rules.specs.Submission.{count_submitted};
 ghost use Rattle.rules.specs.Advance.{count_completed};
@@ -10,6 +11,7 @@ ghost use Rattle.rules.specs.Cancel.{count_cancelled};
 use rules::{Flows, Owner, Tally, Totals};
 
 // What has been counted of the owner's kind.
+#[tactic(auto, unfolding(rules::specs::Records::tally_of))]
 pub fn tally_of(totals: Totals, owner: Owner) -> Tally
     ensures { result ≡ tally_of owner totals }
 {
@@ -25,11 +27,15 @@ pub fn submitted(flows: Flows, owner: Owner, bytes: u64) -> Flows
     requires { (tally_of owner flows.totals).submitted + 1 < 2 ^ 64 }
     ensures { result ≡ on_tally owner (count_submitted bytes) flows }
 {
-    let totals = flows.totals;
-    let mut tally = tally_of(totals, owner);
-    tally.submitted = tally.submitted + 1;
-    tally.bytes_submitted = tally.bytes_submitted + doubles::whole(bytes);
-    with_tally(flows, owner, tally)
+    on_tally(
+        flows,
+        owner,
+        |tally| Tally {
+            submitted: tally.submitted + 1,
+            bytes_submitted: tally.bytes_submitted + doubles::whole(bytes),
+            ..tally
+        },
+    )
 }
 
 // One more completed.
@@ -37,10 +43,14 @@ pub fn completed(flows: Flows, owner: Owner) -> Flows
     requires { (tally_of owner flows.totals).completed + 1 < 2 ^ 64 }
     ensures { result ≡ on_tally owner count_completed flows }
 {
-    let totals = flows.totals;
-    let mut tally = tally_of(totals, owner);
-    tally.completed = tally.completed + 1;
-    with_tally(flows, owner, tally)
+    on_tally(
+        flows,
+        owner,
+        |tally| Tally {
+            completed: tally.completed + 1,
+            ..tally
+        },
+    )
 }
 
 // One more cancelled.
@@ -48,23 +58,35 @@ pub fn cancelled(flows: Flows, owner: Owner) -> Flows
     requires { (tally_of owner flows.totals).cancelled + 1 < 2 ^ 64 }
     ensures { result ≡ on_tally owner count_cancelled flows }
 {
-    let totals = flows.totals;
-    let mut tally = tally_of(totals, owner);
-    tally.cancelled = tally.cancelled + 1;
-    with_tally(flows, owner, tally)
+    on_tally(
+        flows,
+        owner,
+        |tally| Tally {
+            cancelled: tally.cancelled + 1,
+            ..tally
+        },
+    )
 }
 
-// The simulator with another tally for the owner's kind.
-fn with_tally(flows: Flows, owner: Owner, tally: Tally) -> Flows
-    ensures { result ≡ on_tally owner (λ y. tally) flows }
+// The simulator with the tally of the owner's kind put through a change.
+fn on_tally<F: FnOnce(Tally) -> Tally>(flows: Flows, owner: Owner, change: F) -> Flows
+    requires { F.pre change (tally_of owner flows.totals) }
+    ensures { (tally : Tally) × F.post change (tally_of owner flows.totals) tally × (result ≡ on_tally owner (λ y. tally) flows) }
 {
-    let mut totals = flows.totals;
-    match owner {
-        Owner::Worker(_) => totals.worker = tally,
-        Owner::Handoff => totals.handoff = tally,
-        Owner::Write => totals.write = tally,
-    }
-    let mut after = flows;
-    after.totals = totals;
-    after
+    let tally = change(tally_of(flows.totals, owner));
+    let totals = match owner {
+        Owner::Worker(_) => Totals {
+            worker: tally,
+            ..flows.totals
+        },
+        Owner::Handoff => Totals {
+            handoff: tally,
+            ..flows.totals
+        },
+        Owner::Write => Totals {
+            write: tally,
+            ..flows.totals
+        },
+    };
+    Flows { totals, ..flows }
 }

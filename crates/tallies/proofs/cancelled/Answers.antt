@@ -1,14 +1,13 @@
 -- `cancelled` counts on what it read of the kind. Assumes nothing.
-use native.Mathlib.Omega.{arith}
+use Rattle.std.proofs.Common.{rules, ◌≡◌}
+use Rattle.rules.specs.Records.{tally_of}
 use Rattle.rules.specs.Cancel.{count_cancelled}
-use Rattle.tallies.proofs.Known.{changed_tally}
+use Rattle.tallies.proofs.Known.{by_change}
 use Rattle.tallies.proofs.cancelled.Goals as goal
-
-pub overflow_add-tally : goal.overflow_add-tally
-overflow_add-tally c = rw c.tally_of-tally.ensures (omega (arith, c.requires))
 
 pub returns : goal.returns
 unfolding count_cancelled
 returns c =
-    let args = c.args in
-    rw (c.with_tally.ensures, c.tally_of-tally.ensures) (changed_tally args.owner count_cancelled args.flows)
+    let e = c.on_tally.ensures in
+    let counted : e.0 ≡ count_cancelled (tally_of c.args.owner c.args.flows.totals) = search rules in
+    by_change c.args.owner count_cancelled c.args.flows _ (e.0, counted, e.2)

@@ -1,14 +1,13 @@
 -- `submitted` counts on what it read of the kind. Assumes nothing.
-use native.Mathlib.Omega.{arith}
+use Rattle.std.proofs.Common.{rules, ◌≡◌}
+use Rattle.rules.specs.Records.{tally_of}
 use Rattle.rules.specs.Submission.{count_submitted}
-use Rattle.tallies.proofs.Known.{changed_tally}
+use Rattle.tallies.proofs.Known.{by_change}
 use Rattle.tallies.proofs.submitted.Goals as goal
-
-pub overflow_add-tally : goal.overflow_add-tally
-overflow_add-tally c = rw c.tally_of-tally.ensures (omega (arith, c.requires))
 
 pub returns : goal.returns
 unfolding count_submitted
 returns c =
-    let args = c.args in
-    rw (c.with_tally.ensures, c.whole.ensures, c.tally_of-tally.ensures) (changed_tally args.owner (count_submitted args.bytes) args.flows)
+    let e = c.on_tally.ensures in
+    let counted : e.0 ≡ count_submitted c.args.bytes (tally_of c.args.owner c.args.flows.totals) = search rules in
+    by_change c.args.owner (count_submitted c.args.bytes) c.args.flows _ (e.0, counted, e.2)
