@@ -9,6 +9,7 @@ ghost use Rattle.rules.specs.Refusals.{refused, not_finite, not_an_amount, not_a
 use rules::{Answer, Cap, Flows, Outcome, Route};
 
 // A NaN or an infinity.
+#[tactic(auto, unfolding(rules::specs::Refusals::not_finite))]
 pub fn not_finite(x: f64) -> bool
     ensures { result ≡ not_finite x }
 {
@@ -16,55 +17,44 @@ pub fn not_finite(x: f64) -> bool
 }
 
 // A NaN, an infinity or something below zero.
+#[tactic(auto, unfolding(rules::specs::Refusals::not_finite, rules::specs::Refusals::not_an_amount))]
 pub fn not_an_amount(x: f64) -> bool
     ensures { result ≡ not_an_amount x }
 {
-    if doubles::is_finite(x) { x < 0.0 } else { true }
+    not_finite(x) || x < 0.0
 }
 
 // No time from 0 to 2^40 seconds.
 pub fn not_a_time(x: f64) -> bool
     ensures { result ≡ not_a_time x }
 {
-    if not_an_amount(x) {
-        true
-    } else {
-        1099511627776.0 < x
-    }
+    not_an_amount(x) || 1099511627776.0 < x
 }
 
 // A cap that is no amount.
+#[tactic(auto, unfolding(rules::specs::Refusals::not_a_cap))]
 pub fn not_a_cap(cap: Cap) -> bool
     ensures { result ≡ not_a_cap cap }
 {
-    let Cap::AtMost(c) = cap else {
-        return false;
-    };
-    not_an_amount(c)
+    matches!(cap, Cap::AtMost(c) if not_an_amount(c))
 }
 
 // The cap with a negative zero read as zero.
+#[tactic(auto, unfolding(rules::specs::Refusals::read_cap))]
 pub fn read_cap(cap: Cap) -> Cap
     ensures { result ≡ read_cap cap }
 {
-    let Cap::AtMost(c) = cap else {
-        return Cap::Uncapped;
-    };
-    Cap::AtMost(doubles::read_zero(c))
+    match cap {
+        Cap::AtMost(c) => Cap::AtMost(doubles::read_zero(c)),
+        Cap::Uncapped => Cap::Uncapped,
+    }
 }
 
 // Whether a lent path names an edge that n edges do not have.
 pub fn names_no_edge(path: &[u32], n: usize) -> bool
     ensures { result ≡ any (leb n) path.now }
 {
-    let mut i: usize = 0;
-    while i < path.len() {
-        if n <= wide(path[i]) {
-            return true;
-        }
-        i += 1;
-    }
-    false
+    path.iter().any(|e| n <= wide(*e))
 }
 
 // A lent path of at most eight edges, put into the places of a transfer.
@@ -73,12 +63,13 @@ pub fn route_of(path: &[u32]) -> Route
     ensures { result ≡ route path.now }
 {
     let mut hops: [usize; 8] = [0; 8];
-    let mut i: usize = 0;
-    while i < path.len() {
+    for i in 0..path.len() {
         hops[i] = wide(path[i]);
-        i += 1;
     }
-    Route { hops: hops, len: i }
+    Route {
+        hops,
+        len: path.len(),
+    }
 }
 
 // A u32 as an edge number.
@@ -94,6 +85,6 @@ pub fn refused(flows: Flows, number: u32) -> Outcome
 {
     Outcome {
         answer: Answer::Refused(number),
-        flows: flows,
+        flows,
     }
 }
