@@ -10,128 +10,94 @@ ghost use Rattle.rules.specs.Invariant.{Invariant, ClockTime};
 use rules::{Clock, EdgeLoad, Flows};
 
 // Rates worked out anew where the transfers or edges have changed since the last time.
-pub fn ensure_rates(flows: Flows) -> Flows
-    requires { Invariant flows }
-    ensures exactly { result ≡ ensure_rates flows }
-    ensures sound { Invariant result }
+pub fn ensure_rates(flows: &mut Flows)
+    requires { Invariant flows.old }
+    ensures exactly { flows.new ≡ ensure_rates flows.old }
+    ensures sound { Invariant flows.new }
 {
-    let clock = flows.clock;
-    if clock.rates_dirty {
-        let edges = flows.edges;
-        let in_flight = flows.in_flight;
-        let tolerance = flows.tolerance;
-        let filled = filling::recompute_rates(edges, in_flight);
-        let rated = filled.in_flight;
-        let eps = transfers::done_eps(tolerance, clock.now);
-        let next_done_at = transfers::ahead(clock.now, transfers::soonest(rated, eps));
-        let load = crossings::edge_loads(in_flight);
-        let mut after = flows;
-        after.in_flight = rated;
-        let edge_load = EdgeLoad {
-            load: load,
+    if flows.clock.rates_dirty {
+        let load = crossings::edge_loads(&flows.in_flight);
+        let filled = filling::recompute_rates(&flows.edges, &flows.in_flight);
+        let eps = transfers::done_eps(flows.tolerance, flows.clock.now);
+        let next_done_at = transfers::ahead(
+            flows.clock.now,
+            transfers::soonest(&filled.in_flight, eps),
+        );
+        flows.in_flight = filled.in_flight;
+        flows.edge_load = EdgeLoad {
+            load,
             len: flows.num_edges,
         };
-        after.edge_load = edge_load;
-        let refreshed = Clock {
-            now: clock.now,
-            last_drain: clock.last_drain,
+        flows.clock = Clock {
             rates_dirty: false,
-            next_done_at: next_done_at,
+            next_done_at,
             rounds: filled.rounds,
+            ..flows.clock
         };
-        after.clock = refreshed;
-        return after;
     }
-    flows
 }
 
 // Every transfer moved forward to a time at its rate, which is brought up to date where time passes; then the clock.
-pub fn drain_to(flows: Flows, until: f64) -> Flows
-    requires sound { Invariant flows }
+pub fn drain_to(flows: &mut Flows, until: f64)
+    requires sound { Invariant flows.old }
     requires time { ClockTime until }
-    requires later { T (flows.clock.now ≼ until) }
-    ensures exactly { result ≡ drain_to until flows }
-    ensures sound { Invariant result }
+    requires later { T (flows.old.clock.now ≼ until) }
+    ensures exactly { flows.new ≡ drain_to until flows.old }
+    ensures sound { Invariant flows.new }
 {
-    let rated = rated_for(flows, until);
-    let in_flight = rated.in_flight;
-    let load = crossings::edge_loads(in_flight);
-    let drained = drain_slots(rated, until);
-    pass_time(drained, load, until)
+    rated_for(flows, until);
+    let load = crossings::edge_loads(&flows.in_flight);
+    drain_slots(flows, until);
+    pass_time(flows, &load, until);
 }
 
 // A drain to the time it is: what every change of edges, and every known cancel, begins with.
-pub fn drained_to_clock(flows: Flows) -> Flows
-    requires { Invariant flows }
-    ensures exactly { result ≡ drained_to_clock flows }
-    ensures sound { Invariant result }
+pub fn drained_to_clock(flows: &mut Flows)
+    requires { Invariant flows.old }
+    ensures exactly { flows.new ≡ drained_to_clock flows.old }
+    ensures sound { Invariant flows.new }
 {
-    let clock = flows.clock;
-    drain_to(flows, clock.now)
+    let now = flows.clock.now;
+    drain_to(flows, now);
 }
 
 // Rates gone stale.
-pub fn made_stale(flows: Flows) -> Flows
-    ensures { result ≡ made_stale flows }
+pub fn made_stale(flows: &mut Flows)
+    ensures { flows.new ≡ made_stale flows.old }
 {
-    let mut after = flows;
-    after.clock.rates_dirty = true;
-    after
+    flows.clock.rates_dirty = true;
 }
 
 // Rates up to date before time passes; where none does they may stay stale.
-fn rated_for(flows: Flows, until: f64) -> Flows
-    requires { Invariant flows }
-    ensures exactly { result ≡ cond (flows.clock.now ≺ until) (ensure_rates flows) flows }
-    ensures sound { Invariant result }
+fn rated_for(flows: &mut Flows, until: f64)
+    requires { Invariant flows.old }
+    ensures exactly { flows.new ≡ cond (flows.old.clock.now ≺ until) (ensure_rates flows.old) flows.old }
+    ensures sound { Invariant flows.new }
 {
-    let clock = flows.clock;
-    if clock.now < until {
-        return ensure_rates(flows);
+    if flows.clock.now < until {
+        ensure_rates(flows);
     }
-    flows
 }
 
 // The load integrals and the clock moved on to a time, under the crossings of all in flight.
-pub fn pass_time(flows: Flows, load: [usize; 64], until: f64) -> Flows
-    requires places { length flows.edges ≡ 64 }
-    requires right { load ≡ (edge_loads flows).load }
-    ensures { result ≡ pass_time until flows }
+pub fn pass_time(flows: &mut Flows, load: &[usize; 64], until: f64)
+    requires places { length flows.old.edges ≡ 64 }
+    requires right { load.now ≡ (edge_loads flows.old).load }
+    ensures { flows.new ≡ pass_time until flows.old }
 {
-    let clock = flows.clock;
-    let last_drain = clock.last_drain;
-    let next_done_at = clock.next_done_at;
-    let dt = until - clock.now;
-    let mut edges = flows.edges;
+    let dt = until - flows.clock.now;
     if dt > 0.0 {
-        let busy = crossings::gain_busy_all(edges, load, dt);
-        edges = busy;
+        flows.edges = crossings::gain_busy_all(&flows.edges, load, dt);
     }
-    let mut after = flows;
-    after.edges = edges;
-    let moved = Clock {
-        now: until,
-        last_drain: last_drain,
-        rates_dirty: clock.rates_dirty,
-        next_done_at: next_done_at,
-        rounds: clock.rounds,
-    };
-    after.clock = moved;
-    after
+    flows.clock.now = until;
 }
 
 // Every slot drained to a time, the edges credited with what was moved, and the time noted.
-pub fn drain_slots(flows: Flows, until: f64) -> Flows
-    requires { Invariant flows }
-    ensures { result ≡ drain_slots until flows }
+pub fn drain_slots(flows: &mut Flows, until: f64)
+    requires { Invariant flows.old }
+    ensures { flows.new ≡ drain_slots until flows.old }
 {
-    let edges = flows.edges;
-    let in_flight = flows.in_flight;
-    let credited = draining::delivered(edges, in_flight, until);
-    let drained = draining::drained_all(in_flight, until);
-    let mut after = flows;
-    after.edges = credited;
-    after.in_flight = drained;
-    after.clock.last_drain = until;
-    after
+    flows.edges = draining::delivered(&flows.edges, &flows.in_flight, until);
+    flows.in_flight = draining::drained_all(&flows.in_flight, until);
+    flows.clock.last_drain = until;
 }

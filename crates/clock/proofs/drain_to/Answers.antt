@@ -7,15 +7,12 @@ use Rattle.rules.proofs.Routes.{all_routes, all_room}
 use Rattle.clock.proofs.drain_to.Goals as goal
 
 pub edge_loads-load-requires : goal.edge_loads-load-requires
-edge_loads-load-requires c = record { routes = all_routes c.rated_for-rated.ensures.sound; room = all_room c.rated_for-rated.ensures.sound }
-
-pub drain_slots-drained-requires : goal.drain_slots-drained-requires
-drain_slots-drained-requires c = c.rated_for-rated.ensures.sound
+edge_loads-load-requires c = record { routes = all_routes c.rated_for.ensures.sound; room = all_room c.rated_for.ensures.sound }
 
 pub pass_time-requires : goal.pass_time-requires
 pass_time-requires c =
-    let rated = c.rated_for-rated in record { places = rw c.drain_slots-drained.ensures (drained_places _ rated.result ∙ rated.ensures.sound.edge_places); right = rw (c.drain_slots-drained.ensures, c.edge_loads-load.ensures) (drained_loads _ rated.result rated.ensures.sound.edge_places) }
+    let places = c.rated_for.ensures.sound.edge_places in record { places = rw c.drain_slots.ensures (drained_places _ c.rated_for.new.flows ∙ places); right = rw (c.drain_slots.ensures, c.edge_loads-load.ensures) (drained_loads _ c.rated_for.new.flows places) }
 
 pub returns : goal.returns
 unfolding drain_to
-returns c = let both = drain_kept c.requires.sound c.requires.time c.requires.later (rw (c.pass_time.ensures, c.drain_slots-drained.ensures, c.rated_for-rated.ensures.exactly)) in record { exactly = both.0; sound = both.1 }
+returns c = let both = drain_kept c.requires.sound c.requires.time c.requires.later (rw (c.pass_time.ensures, c.drain_slots.ensures, c.rated_for.ensures.exactly)) in record { exactly = both.0; sound = both.1 }

@@ -11,20 +11,22 @@ use Rattle.rules.proofs.Routes.{all_routes, all_room}
 use Rattle.clock.proofs.ensure_rates.Goals as goal
 
 pub recompute_rates-filled-requires : goal.recompute_rates-filled-requires
-recompute_rates-filled-requires c = fillable c.args.flows c.requires
+recompute_rates-filled-requires c = fillable c.args.flows.now c.requires
 
 pub edge_loads-load-requires : goal.edge_loads-load-requires
 edge_loads-load-requires c = record { routes = all_routes c.requires; room = all_room c.requires }
 
-pub returns-then-clock : goal.returns-then-clock
+pub returns-then-flows : goal.returns-then-flows
 unfolding ensure_rates with_rates with_in_flight with_edge_load with_clock done_eps edge_loads
-returns-then-clock c =
-    let flows = c.args.flows in
+returns-then-flows c =
+    let flows = c.args.flows.now in
     let filled = c.recompute_rates-filled in
     let soon : c.soonest.result ≡ soonest (done_eps flows) filled.result.in_flight = c.soonest.ensures ∙ ap (λ (eps : Float). soonest eps filled.result.in_flight) c.done_eps-eps.ensures in
     let next : c.ahead-next_done_at.result ≡ ahead flows.clock.now (soonest (done_eps flows) filled.result.in_flight) = rw (c.ahead-next_done_at.ensures, soon) in
-    let loads : ◌≡◌ {A = EdgeLoad} (record { load = c.edge_loads-load.result; len = flows.num_edges }) (edge_loads flows) = rw c.edge_loads-load.ensures (load_kept c.requires) in let both = rates_kept c.requires (rw (c.if-clock.true, ← filled.ensures.transfers, ← filled.ensures.rounds, ← next, ← loads)) in record { exactly = both.0; sound = both.1 }
+    let loads : ◌≡◌ {A = EdgeLoad} (record { load = c.edge_loads-load.result; len = flows.num_edges }) (edge_loads flows) = rw c.edge_loads-load.ensures (load_kept c.requires) in
+    let both = rates_kept c.requires (rw (c.if-flows.true, ← filled.ensures.transfers, ← filled.ensures.rounds, ← next, ← loads)) in
+    record { exactly = both.0; sound = both.1 }
 
-pub returns : goal.returns
+pub returns-else-flows : goal.returns-else-flows
 unfolding ensure_rates
-returns c = let both = rates_kept c.requires (rw c.if-clock.false) in record { exactly = both.0; sound = both.1 }
+returns-else-flows c = let both = rates_kept c.requires (rw c.if-flows.false) in record { exactly = both.0; sound = both.1 }

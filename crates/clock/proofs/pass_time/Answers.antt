@@ -11,10 +11,10 @@ use Rattle.clock.proofs.pass_time.Goals as goal
 pub returns : goal.returns
 unfolding pass_time at_time with_clock with_edges
 returns c =
-    let flows = c.args.flows in
+    let flows = c.args.flows.now in
     let dt = c.args.until ⊖ flows.clock.now in
     elim c.if-dt.branch [
-      | then-dt w ↦ let busy : w.gain_busy_all-busy.result ≡ map_from 0 (λ e edge. gain_busy dt (crossings_by counts_in_loads (path_of flows) flows.in_flight e) edge) flows.edges = w.gain_busy_all-busy.ensures ∙ busy_by_load flows c.requires.places c.args.load c.requires.right dt in
-          rw (w.edges-is, w.if-dt.true, ← busy)
-      | else-dt w ↦ rw (w.edges-is, w.if-dt.false)
+      | then-dt w ↦ let busy : w.gain_busy_all-flows.result ≡ map_from 0 (λ e edge. gain_busy dt (crossings_by counts_in_loads (path_of flows) flows.in_flight e) edge) flows.edges = w.gain_busy_all-flows.ensures ∙ busy_by_load flows c.requires.places c.args.load.now c.requires.right dt in
+          rw (w.flows-is, w.if-dt.true, ← busy)
+      | else-dt w ↦ rw (w.flows-is, w.if-dt.false)
     ]

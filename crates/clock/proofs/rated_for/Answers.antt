@@ -4,12 +4,10 @@ use mathlib.Core.Bool.{true, false}
 use Rattle.doubles.specs.Doubles.{◌≺◌}
 use Rattle.clock.proofs.rated_for.Goals as goal
 
-pub returns-then-clock-until : goal.returns-then-clock-until
-returns-then-clock-until c =
-    let args = c.args in
-    let passes : (args.flows.clock.now ≺ args.until) ≡ true = c.if-clock-until.true in record { exactly = rw passes c.ensure_rates.ensures.exactly; sound = c.ensure_rates.ensures.sound }
+pub returns-then-flows-until-clause-exactly : goal.returns-then-flows-until-clause-exactly
+returns-then-flows-until-clause-exactly c =
+    let passes : (c.args.flows.now.clock.now ≺ c.args.until) ≡ true = c.if-flows-until.true in rw passes c.ensure_rates.ensures.exactly
 
-pub returns : goal.returns
-returns c =
-    let args = c.args in
-    let stands : (args.flows.clock.now ≺ args.until) ≡ false = c.if-clock-until.false in record { exactly = rw stands; sound = c.requires }
+pub returns-else-flows-until-clause-exactly : goal.returns-else-flows-until-clause-exactly
+returns-else-flows-until-clause-exactly c =
+    let stands : (c.args.flows.now.clock.now ≺ c.args.until) ≡ false = c.if-flows-until.false in rw stands
