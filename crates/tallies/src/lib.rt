@@ -23,9 +23,9 @@ pub fn tally_of(totals: Totals, owner: Owner) -> Tally
 }
 
 // One more submitted, with its bytes.
-pub fn submitted(flows: Flows, owner: Owner, bytes: u64) -> Flows
-    requires { (tally_of owner flows.totals).submitted + 1 < 2 ^ 64 }
-    ensures { result ≡ on_tally owner (count_submitted bytes) flows }
+pub fn submitted(flows: &mut Flows, owner: Owner, bytes: u64)
+    requires { (tally_of owner flows.old.totals).submitted + 1 < 2 ^ 64 }
+    ensures { flows.new ≡ on_tally owner (count_submitted bytes) flows.old }
 {
     on_tally(
         flows,
@@ -35,13 +35,13 @@ pub fn submitted(flows: Flows, owner: Owner, bytes: u64) -> Flows
             bytes_submitted: tally.bytes_submitted + doubles::whole(bytes),
             ..tally
         },
-    )
+    );
 }
 
 // One more completed.
-pub fn completed(flows: Flows, owner: Owner) -> Flows
-    requires { (tally_of owner flows.totals).completed + 1 < 2 ^ 64 }
-    ensures { result ≡ on_tally owner count_completed flows }
+pub fn completed(flows: &mut Flows, owner: Owner)
+    requires { (tally_of owner flows.old.totals).completed + 1 < 2 ^ 64 }
+    ensures { flows.new ≡ on_tally owner count_completed flows.old }
 {
     on_tally(
         flows,
@@ -50,13 +50,13 @@ pub fn completed(flows: Flows, owner: Owner) -> Flows
             completed: tally.completed + 1,
             ..tally
         },
-    )
+    );
 }
 
 // One more cancelled.
-pub fn cancelled(flows: Flows, owner: Owner) -> Flows
-    requires { (tally_of owner flows.totals).cancelled + 1 < 2 ^ 64 }
-    ensures { result ≡ on_tally owner count_cancelled flows }
+pub fn cancelled(flows: &mut Flows, owner: Owner)
+    requires { (tally_of owner flows.old.totals).cancelled + 1 < 2 ^ 64 }
+    ensures { flows.new ≡ on_tally owner count_cancelled flows.old }
 {
     on_tally(
         flows,
@@ -65,28 +65,18 @@ pub fn cancelled(flows: Flows, owner: Owner) -> Flows
             cancelled: tally.cancelled + 1,
             ..tally
         },
-    )
+    );
 }
 
-// The simulator with the tally of the owner's kind put through a change.
-fn on_tally<F: FnOnce(Tally) -> Tally>(flows: Flows, owner: Owner, change: F) -> Flows
-    requires { F.pre change (tally_of owner flows.totals) }
-    ensures { (tally : Tally) × F.post change (tally_of owner flows.totals) tally × (result ≡ on_tally owner (λ y. tally) flows) }
+// The tally of the owner's kind put through a change.
+fn on_tally<F: FnOnce(Tally) -> Tally>(flows: &mut Flows, owner: Owner, change: F)
+    requires { F.pre change (tally_of owner flows.old.totals) }
+    ensures { (tally : Tally) × F.post change (tally_of owner flows.old.totals) tally × (flows.new ≡ on_tally owner (λ y. tally) flows.old) }
 {
     let tally = change(tally_of(flows.totals, owner));
-    let totals = match owner {
-        Owner::Worker(_) => Totals {
-            worker: tally,
-            ..flows.totals
-        },
-        Owner::Handoff => Totals {
-            handoff: tally,
-            ..flows.totals
-        },
-        Owner::Write => Totals {
-            write: tally,
-            ..flows.totals
-        },
-    };
-    Flows { totals, ..flows }
+    match owner {
+        Owner::Worker(_) => flows.totals.worker = tally,
+        Owner::Handoff => flows.totals.handoff = tally,
+        Owner::Write => flows.totals.write = tally,
+    }
 }

@@ -9,5 +9,5 @@ pub returns : goal.returns
 unfolding count_completed
 returns c =
     let e = c.on_tally.ensures in
-    let counted : e.0 ≡ count_completed (tally_of c.args.owner c.args.flows.totals) = search rules in
-    by_change c.args.owner count_completed c.args.flows _ (e.0, counted, e.2)
+    let counted : e.0 ≡ count_completed (tally_of c.args.owner c.args.flows.now.totals) = search rules in
+    by_change c.args.owner count_completed c.args.flows.now _ (e.0, counted, e.2)

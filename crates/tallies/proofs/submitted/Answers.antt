@@ -9,5 +9,5 @@ pub returns : goal.returns
 unfolding count_submitted
 returns c =
     let e = c.on_tally.ensures in
-    let counted : e.0 ≡ count_submitted c.args.bytes (tally_of c.args.owner c.args.flows.totals) = search rules in
-    by_change c.args.owner (count_submitted c.args.bytes) c.args.flows _ (e.0, counted, e.2)
+    let counted : e.0 ≡ count_submitted c.args.bytes (tally_of c.args.owner c.args.flows.now.totals) = search rules in
+    by_change c.args.owner (count_submitted c.args.bytes) c.args.flows.now _ (e.0, counted, e.2)
