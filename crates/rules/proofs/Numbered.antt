@@ -1,6 +1,6 @@
 -- A table put through a numbered function: in place, element by element, and side by side with another table. Assumes nothing.
 use mathlib.Core.Path.{◌≡◌, refl, sym, ap, ◌∙◌}
-use mathlib.Core.List.{List, [], ◌∷◌, ◌++◌, map, append-nil}
+use mathlib.Core.List.{List, [], ◌∷◌, ◌++◌, append-nil}
 use Prim.Native.Nat.{ℕ, zero, suc, ◌+◌, ◌<◌, ◌≤◌}
 use native.Mathlib.Numerals.{add-one}
 use native.Mathlib.Omega.{arith}
@@ -21,18 +21,6 @@ module _ {A : Type 0} (g : ℕ → A → A) (xs : List A) (i : ℕ) where
   place_end h = rw (take_all i xs, drop_of_length-le xs) (append-nil xs)
 
 -- ---- numbered maps
--- a function that does not read the number
-pub map_from_map : {A B : Type 0} (n : ℕ) (f : A → B) (xs : List A) → map_from n (λ e x. f x) xs ≡ map f xs
-unfolding map_from
-map_from_map n f [] = refl
-map_from_map n f (x ∷ xs) = ap (λ (r : List _). f x ∷ r) (map_from_map (suc n) f xs)
-
--- numbers that start one higher
-pub map_from_shift : {A B : Type 0} (n : ℕ) (g : ℕ → A → B) (xs : List A) → map_from (suc n) g xs ≡ map_from n (λ e x. g (suc e) x) xs
-unfolding map_from
-map_from_shift n g [] = refl
-map_from_shift n g (x ∷ xs) = ap (λ (r : List _). g (suc n) x ∷ r) (map_from_shift (suc n) g xs)
-
 -- the same values at every place that there is
 pub map_from_same : {A B : Type 0} (n : ℕ) (g h : ℕ → A → B) (xs : List A) → ((e : ℕ) (x : A) → e < n + length xs → g e x ≡ h e x) → map_from n g xs ≡ map_from n h xs
 unfolding map_from
