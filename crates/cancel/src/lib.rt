@@ -9,27 +9,24 @@ use rules::{Answer, Flows, Outcome, Transfer};
 use slots::Lookup;
 
 // A transfer is given up; what it has moved stays counted.
-pub fn cancel(flows: Flows, id: u32) -> Outcome
+pub fn cancel(mut flows: Flows, id: u32) -> Outcome
     requires { Invariant flows }
     ensures exactly { result ≡ cancel id flows }
     ensures sound { Invariant result.flows }
 {
-    let in_flight = flows.in_flight;
-    let Lookup::Slot(i) = slots::find(in_flight, id) else {
+    let Lookup::Slot(i) = slots::find(&flows.in_flight, id) else {
         return Outcome {
             answer: Answer::Unknown,
-            flows: flows,
+            flows,
         };
     };
-    let given_up = in_flight[i];
-    let owner = given_up.owner;
-    let drained = clock::drained_to_clock(flows);
-    let mut freed = tallies::cancelled(drained, owner);
-    let free = Transfer::free();
-    freed.in_flight[i] = free;
-    let stale = clock::made_stale(freed);
+    let owner = flows.in_flight[i].owner;
+    clock::drained_to_clock(&mut flows);
+    tallies::cancelled(&mut flows, owner);
+    flows.in_flight[i] = Transfer::free();
+    clock::made_stale(&mut flows);
     Outcome {
         answer: Answer::Done,
-        flows: stale,
+        flows,
     }
 }

@@ -8,7 +8,7 @@ ghost use Rattle.rules.specs.Invariant.{Invariant};
 use rules::{Answer, Edge, Flows, Outcome};
 
 // One more edge, which gets the next number.
-pub fn add_edge(flows: Flows, capacity: f64) -> Outcome
+pub fn add_edge(mut flows: Flows, capacity: f64) -> Outcome
     requires { Invariant flows }
     ensures exactly { result ≡ add_edge capacity flows }
     ensures sound { Invariant result.flows }
@@ -20,50 +20,46 @@ pub fn add_edge(flows: Flows, capacity: f64) -> Outcome
     if 64 <= e {
         return arguments::refused(flows, 7);
     }
-    let read = doubles::read_zero(capacity);
-    let edge = Edge {
-        capacity: read,
+    clock::drained_to_clock(&mut flows);
+    flows.edges[e] = Edge {
+        capacity: doubles::read_zero(capacity),
         bytes_moved: 0.0,
         busy_transfer_seconds: 0.0,
     };
-    let mut grown = clock::drained_to_clock(flows);
-    grown.edges[e] = edge;
-    grown.num_edges = e + 1;
-    let stale = clock::made_stale(grown);
-    let number = e as u32;
+    flows.num_edges = e + 1;
+    clock::made_stale(&mut flows);
     Outcome {
-        answer: Answer::Added(number),
-        flows: stale,
+        answer: Answer::Added(e as u32),
+        flows,
     }
 }
 
 // An amount of either sign added to an edge's capacity, from the clock on.
-pub fn widen(flows: Flows, edge: u32, bytes_per_sec: f64) -> Outcome
+pub fn widen(mut flows: Flows, edge: u32, bytes_per_sec: f64) -> Outcome
     requires { Invariant flows }
     ensures exactly { result ≡ widen edge bytes_per_sec flows }
     ensures sound { Invariant result.flows }
 {
     let e = edge as usize;
-    if no_widening(flows, e, bytes_per_sec) {
+    if no_widening(&flows, e, bytes_per_sec) {
         return arguments::refused(flows, 1);
     }
     if flows.num_edges <= e {
         return arguments::refused(flows, 3);
     }
-    let amount = doubles::read_zero(bytes_per_sec);
-    let mut widened = clock::drained_to_clock(flows);
-    widened.edges[e].capacity = widened.edges[e].capacity + amount;
-    let stale = clock::made_stale(widened);
+    clock::drained_to_clock(&mut flows);
+    flows.edges[e].capacity += doubles::read_zero(bytes_per_sec);
+    clock::made_stale(&mut flows);
     Outcome {
         answer: Answer::Done,
-        flows: stale,
+        flows,
     }
 }
 
 // Whether an amount is no number, or would leave an edge that is there without a capacity.
-fn no_widening(flows: Flows, e: usize, amount: f64) -> bool
-    requires { Invariant flows }
-    ensures { result ≡ no_widening amount e flows }
+fn no_widening(flows: &Flows, e: usize, amount: f64) -> bool
+    requires { Invariant flows.now }
+    ensures { result ≡ no_widening amount e flows.now }
 {
     if arguments::not_finite(amount) {
         return true;
@@ -71,6 +67,5 @@ fn no_widening(flows: Flows, e: usize, amount: f64) -> bool
     if flows.num_edges <= e {
         return false;
     }
-    let edges = flows.edges;
-    arguments::not_an_amount(edges[e].capacity + amount)
+    arguments::not_an_amount(flows.edges[e].capacity + amount)
 }

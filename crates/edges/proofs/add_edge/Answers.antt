@@ -22,4 +22,4 @@ returns-then-e-ge64 c = let both = kept (add_edge_keeps c.args.capacity c.args.f
 pub returns : goal.returns
 unfolding add_edge refusing with_edges
 returns c = let both = kept (add_edge_keeps c.args.capacity c.args.flows (search rules) c.requires)
-    (rw (sym c.not_an_amount.ensures ∙ c.if-not_an_amount.false, lt-leb 64 c.args.flows.num_edges (omega arith), edge_added_is _ c.requires, c.made_stale-stale.ensures, ← c.drained_to_clock-grown.ensures.exactly, ← c.read_zero-read.ensures)) in record { exactly = both.0; sound = both.1 }
+    (rw (sym c.not_an_amount.ensures ∙ c.if-not_an_amount.false, lt-leb 64 c.args.flows.num_edges (omega arith), edge_added_is _ c.requires, c.made_stale.ensures, ← c.drained_to_clock.ensures.exactly, ← c.read_zero.ensures)) in record { exactly = both.0; sound = both.1 }

@@ -14,10 +14,10 @@ returns-then-not_finite c = rw (sym c.not_finite.ensures ∙ c.if-not_finite.tru
 
 pub returns-then-flows-e : goal.returns-then-flows-e
 unfolding no_widening no_such_edge
-returns-then-flows-e c = rw (sym c.not_finite.ensures ∙ c.if-not_finite.false, le-leb c.args.flows.num_edges c.args.e (omega arith))
+returns-then-flows-e c = rw (sym c.not_finite.ensures ∙ c.if-not_finite.false, le-leb c.args.flows.now.num_edges c.args.e (omega arith))
 
 pub returns : goal.returns
 unfolding no_widening no_such_edge wider
 returns c =
-    let told = rw (get_d_any c.args.flows.edges c.args.e _ blank_edge (omega arith)) at c.not_an_amount.ensures in
-    rw (sym c.not_finite.ensures ∙ c.if-not_finite.false, lt-leb c.args.flows.num_edges c.args.e (omega arith), told)
+    let told = rw (get_d_any c.args.flows.now.edges c.args.e _ blank_edge (omega arith)) at c.not_an_amount.ensures in
+    rw (sym c.not_finite.ensures ∙ c.if-not_finite.false, lt-leb c.args.flows.now.num_edges c.args.e (omega arith), told)

@@ -24,4 +24,4 @@ returns-then-flows-e c = let both = kept (widen_keeps c.args.edge c.args.bytes_p
 pub returns : goal.returns
 unfolding refusing no_such_edge with_edges
 returns c = let both = kept (widen_keeps c.args.edge c.args.bytes_per_sec c.args.flows (passes _ c.well_formed.1.1.0.1) c.requires)
-    (rw (widen_is, sym c.no_widening.ensures ∙ c.if-no_widening.false, lt-leb c.args.flows.num_edges c.args.edge (omega arith), edge_widened_is c.args.edge _ c.args.flows (record { capacity = nan; bytes_moved = nan; busy_transfer_seconds = nan }), c.made_stale-stale.ensures, ← c.drained_to_clock-widened.ensures.exactly, ← c.read_zero-amount.ensures)) in record { exactly = both.0; sound = both.1 }
+    (rw (widen_is, sym c.no_widening.ensures ∙ c.if-no_widening.false, lt-leb c.args.flows.num_edges c.args.edge (omega arith), edge_widened_is c.args.edge _ c.args.flows (record { capacity = nan; bytes_moved = nan; busy_transfer_seconds = nan }), c.made_stale.ensures, ← c.drained_to_clock.ensures.exactly, ← c.read_zero.ensures)) in record { exactly = both.0; sound = both.1 }
