@@ -16,26 +16,26 @@ pub returns-in_default : goal.returns-in_default
 unfolding cancel contains
 returns-in_default c = let both = kept (cancel_keeps c.args.id c.args.flows c.requires) (rw (nowhere c.args.id c.args.flows.in_flight (sym c.find.ensures ∙ c.in_default.is)).none_has) in record { exactly = both.0; sound = both.1 }
 
-pub offset_bounds-in_flight-i : goal.offset_bounds-in_flight-i
-offset_bounds-in_flight-i c = omega (arith, found_below c.requires c.args.id (sym c.find.ensures ∙ c.in-Slot.is))
+pub offset_bounds-flows-i : goal.offset_bounds-flows-i
+offset_bounds-flows-i c = omega (arith, found_below c.requires c.args.id (sym c.find.ensures ∙ c.in-Slot.is))
 
-pub bounds-in_flight-i : goal.bounds-in_flight-i
-bounds-in_flight-i c = omega (arith, found_below c.requires c.args.id (sym c.find.ensures ∙ c.in-Slot.is))
+pub bounds-flows-i : goal.bounds-flows-i
+bounds-flows-i c = omega (arith, found_below c.requires c.args.id (sym c.find.ensures ∙ c.in-Slot.is))
 
-pub cancelled-freed-requires : goal.cancelled-freed-requires
-cancelled-freed-requires c =
+pub cancelled-requires : goal.cancelled-requires
+cancelled-requires c =
     let flows = c.args.flows in
     let i = c.in-Slot.i in
     let found = somewhere c.args.id flows.in_flight i (sym c.find.ensures ∙ c.in-Slot.is) in
-    let kept_totals = ap (λ (g : Flows). (tally_of (get_or flows.in_flight i free).owner g.totals).cancelled) c.drained_to_clock-drained.ensures.exactly in
+    let kept_totals = ap (λ (g : Flows). (tally_of (get_or flows.in_flight i free).owner g.totals).cancelled) c.drained_to_clock.ensures.exactly in
     rw (get_d_any flows.in_flight i _ free found.inside)
     (omega (arith, kept_totals, drained_tally c.requires (get_or flows.in_flight i free).owner, room_to_cancel c.args.id i c.requires found))
 
-pub offset_bounds-freed-i : goal.offset_bounds-freed-i
-offset_bounds-freed-i c = omega (arith, found_below c.requires c.args.id (sym c.find.ensures ∙ c.in-Slot.is))
+pub offset_bounds-flows-i-2 : goal.offset_bounds-flows-i-2
+offset_bounds-flows-i-2 c = omega (arith, found_below c.requires c.args.id (sym c.find.ensures ∙ c.in-Slot.is))
 
-pub bounds-freed-i : goal.bounds-freed-i
-bounds-freed-i c = omega (arith, found_below c.requires c.args.id (sym c.find.ensures ∙ c.in-Slot.is))
+pub bounds-flows-i-2 : goal.bounds-flows-i-2
+bounds-flows-i-2 c = omega (arith, found_below c.requires c.args.id (sym c.find.ensures ∙ c.in-Slot.is))
 
 pub returns : goal.returns
 unfolding cancel contains with_in_flight
@@ -43,5 +43,5 @@ returns c =
     let flows = c.args.flows in
     let i = c.in-Slot.i in
     let found = somewhere c.args.id flows.in_flight i (sym c.find.ensures ∙ c.in-Slot.is) in
-    let counted = rw (get_d_any flows.in_flight i _ free found.inside) at c.cancelled-freed.ensures in let both = kept (cancel_keeps c.args.id flows c.requires)
-    (rw (found.some_has, cancelled_is c.args.id i c.requires found, c.made_stale-stale.ensures, counted, c.free-free.ensures, ← c.drained_to_clock-drained.ensures.exactly)) in record { exactly = both.0; sound = both.1 }
+    let counted = rw (get_d_any flows.in_flight i _ free found.inside) at c.cancelled.ensures in let both = kept (cancel_keeps c.args.id flows c.requires)
+    (rw (found.some_has, cancelled_is c.args.id i c.requires found, c.made_stale.ensures, counted, c.free.ensures, ← c.drained_to_clock.ensures.exactly)) in record { exactly = both.0; sound = both.1 }
