@@ -10,77 +10,70 @@ ghost use Rattle.rules.specs.Submission.{joined, started};
 ghost use Rattle.starting.specs.Started.{start};
 
 use rules::{Answer, Flows, Outcome, Owner, Transfer};
+use slots::Lookup;
 
 // A transfer of that many bytes starts at its own time, where the tables take it.
-pub fn start(flows: Flows, transfer: Transfer, bytes: u64) -> Outcome
+pub fn start(mut flows: Flows, transfer: Transfer, bytes: u64) -> Outcome
     requires sound { Invariant flows }
     requires time { ClockTime transfer.last_update }
     requires later { T (flows.clock.now ≼ transfer.last_update) }
     ensures { result ≡ start transfer bytes flows }
 {
-    if totals::contains(flows, transfer.id) {
+    if let Lookup::Slot(_) = slots::find(&flows.in_flight, transfer.id) {
         return arguments::refused(flows, 6);
     }
-    if is_full(flows) {
+    if is_full(&flows) {
         return arguments::refused(flows, 7);
     }
-    let owner = transfer.owner;
-    if has_last_number(flows, owner) {
+    if has_last_number(&flows, transfer.owner) {
         return arguments::refused(flows, 9);
     }
-    let after = started(flows, transfer, bytes);
+    started(&mut flows, transfer, bytes);
     Outcome {
         answer: Answer::Done,
-        flows: after,
+        flows,
     }
 }
 
 // Whether those in flight and those that wait to be collected leave no room.
-fn is_full(flows: Flows) -> bool
-    requires { num_in_flight flows + flows.num_completed ≤ 256 }
-    ensures { result ≡ is_full flows }
+fn is_full(flows: &Flows) -> bool
+    requires { num_in_flight flows.now + flows.now.num_completed ≤ 256 }
+    ensures { result ≡ is_full flows.now }
 {
-    256 <= totals::num_in_flight(flows) + flows.num_completed
+    256 <= slots::num_taken(&flows.in_flight) + flows.num_completed
 }
 
 // Whether the owner's kind has had the last number that its tally can hold.
-fn has_last_number(flows: Flows, owner: Owner) -> bool
-    ensures { result ≡ eqb (tally_of owner flows.totals).submitted (2 ^ 64 - 1) }
+fn has_last_number(flows: &Flows, owner: Owner) -> bool
+    ensures { result ≡ eqb (tally_of owner flows.now.totals).submitted (2 ^ 64 - 1) }
 {
-    let totals = flows.totals;
-    let tally = tallies::tally_of(totals, owner);
-    tally.submitted == 18446744073709551615
+    tallies::tally_of(flows.totals, owner).submitted == u64::MAX
 }
 
 // The work: all is drained to the transfer's time under the rates before it, and then it is counted and inserted.
-fn started(flows: Flows, transfer: Transfer, bytes: u64) -> Flows
-    requires sound { Invariant flows }
+fn started(flows: &mut Flows, transfer: Transfer, bytes: u64)
+    requires sound { Invariant flows.old }
     requires time { ClockTime transfer.last_update }
-    requires later { T (flows.clock.now ≼ transfer.last_update) }
-    requires room { num_in_flight flows < 256 }
-    requires numbered { (tally_of transfer.owner flows.totals).submitted + 1 < 2 ^ 64 }
-    ensures { result ≡ started transfer bytes flows }
+    requires later { T (flows.old.clock.now ≼ transfer.last_update) }
+    requires room { num_in_flight flows.old < 256 }
+    requires numbered { (tally_of transfer.owner flows.old.totals).submitted + 1 < 2 ^ 64 }
+    ensures { flows.new ≡ started transfer bytes flows.old }
 {
-    let owner = transfer.owner;
-    let drained = clock::drain_to(flows, transfer.last_update);
-    let counted = tallies::submitted(drained, owner, bytes);
-    let after = joined(counted, transfer);
-    clock::made_stale(after)
+    clock::drain_to(flows, transfer.last_update);
+    tallies::submitted(flows, transfer.owner, bytes);
+    joined(flows, transfer);
+    clock::made_stale(flows);
 }
 
 // The transfer in the lowest free slot, and the peak raised to the number that is then in flight.
-fn joined(flows: Flows, transfer: Transfer) -> Flows
-    requires { num_in_flight flows < 256 }
-    ensures { result ≡ joined transfer flows }
+fn joined(flows: &mut Flows, transfer: Transfer)
+    requires { num_in_flight flows.old < 256 }
+    ensures { flows.new ≡ joined transfer flows.old }
 {
-    let before = flows.in_flight;
-    let i = slots::free_slot(before);
-    let mut after = flows;
-    after.in_flight[i] = transfer;
-    let in_flight = after.in_flight;
-    let n = slots::num_taken(in_flight);
-    if after.totals.peak_in_flight < n {
-        after.totals.peak_in_flight = n;
+    let i = slots::free_slot(&flows.in_flight);
+    flows.in_flight[i] = transfer;
+    let n = slots::num_taken(&flows.in_flight);
+    if flows.totals.peak_in_flight < n {
+        flows.totals.peak_in_flight = n;
     }
-    after
 }

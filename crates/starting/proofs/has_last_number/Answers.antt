@@ -2,4 +2,4 @@
 use Rattle.starting.proofs.has_last_number.Goals as goal
 
 pub returns : goal.returns
-returns c = rw c.tally_of-tally.ensures
+returns c = rw c.tally_of.ensures

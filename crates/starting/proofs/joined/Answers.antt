@@ -13,20 +13,20 @@ pub free_slot-i-requires : goal.free_slot-i-requires
 unfolding num_in_flight
 free_slot-i-requires c = c.requires
 
-pub returns-then-after-n : goal.returns-then-after-n
+pub returns-then-flows-n : goal.returns-then-flows-n
 unfolding peak_taken with_in_flight with_totals num_in_flight
-returns-then-after-n c =
+returns-then-flows-n c =
     let args = c.args in
-    let slots = args.flows.in_flight in
+    let slots = args.flows.now.in_flight in
     let counted : count (λ t. t.taken) (set slots c.free_slot-i.result args.transfer) ≡ c.num_taken-n.result = omega (arith, c.num_taken-n.ensures.exactly) in
-    let peak : max args.flows.totals.peak_in_flight c.num_taken-n.result ≡ c.num_taken-n.result = omega arith in
+    let peak : max args.flows.now.totals.peak_in_flight c.num_taken-n.result ≡ c.num_taken-n.result = omega arith in
     rw (placed_is args.transfer slots, ← c.free_slot-i.ensures.lowest, counted, peak)
 
-pub returns-else-after-n : goal.returns-else-after-n
+pub returns-else-flows-n : goal.returns-else-flows-n
 unfolding peak_taken with_in_flight with_totals num_in_flight
-returns-else-after-n c =
+returns-else-flows-n c =
     let args = c.args in
-    let slots = args.flows.in_flight in
+    let slots = args.flows.now.in_flight in
     let counted : count (λ t. t.taken) (set slots c.free_slot-i.result args.transfer) ≡ c.num_taken-n.result = omega (arith, c.num_taken-n.ensures.exactly) in
-    let peak : max args.flows.totals.peak_in_flight c.num_taken-n.result ≡ args.flows.totals.peak_in_flight = omega arith in
+    let peak : max args.flows.now.totals.peak_in_flight c.num_taken-n.result ≡ args.flows.now.totals.peak_in_flight = omega arith in
     rw (placed_is args.transfer slots, ← c.free_slot-i.ensures.lowest, counted, peak)
