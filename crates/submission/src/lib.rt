@@ -64,13 +64,7 @@ pub fn submit_capped(
 fn not_numbers(latency: f64, rate_cap: Cap, time: f64) -> bool
     ensures { result ≡ (not_finite latency || not_a_cap rate_cap || not_a_time time) }
 {
-    if arguments::not_finite(latency) {
-        return true;
-    }
-    if arguments::not_a_cap(rate_cap) {
-        return true;
-    }
-    arguments::not_a_time(time)
+    arguments::not_finite(latency) || arguments::not_a_cap(rate_cap) || arguments::not_a_time(time)
 }
 
 // The transfer as it is put into its slot: no bytes flow before a filling, and it has been drained up to its own time.
@@ -86,16 +80,14 @@ fn submitted_transfer(
     requires { length path.now ≤ 8 }
     ensures { result ≡ submitted_transfer id owner path.now bytes (read_zero latency) (read_cap rate_cap) (read_zero time) }
 {
-    let route = arguments::route_of(path);
-    let cap = arguments::read_cap(rate_cap);
     Transfer {
         taken: true,
-        id: id,
-        owner: owner,
-        path: route,
+        id,
+        owner,
+        path: arguments::route_of(path),
         latency_remaining: doubles::larger(doubles::read_zero(latency), 0.0),
         bytes_remaining: doubles::whole(bytes),
-        rate_cap: cap,
+        rate_cap: arguments::read_cap(rate_cap),
         rate: 0.0,
         limit: Limit::Nowhere,
         last_update: doubles::read_zero(time),
