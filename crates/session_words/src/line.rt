@@ -27,32 +27,22 @@ impl Line {
         requires { self.len ≤ 4096 }
         ensures { result.len ≤ 4096 }
     {
-        let len = self.len;
-        if self.remark {
+        if self.remark || self.len == 0 && is_blank(b) {
             return self;
         }
         if b == b'#' {
             return Line {
-                len,
                 remark: true,
-                long: self.long,
+                ..self
             };
         }
-        if len == 0 && is_blank(b) {
-            return self;
+        if self.len == text.len() {
+            return Line { long: true, ..self };
         }
-        if len == 4096 {
-            return Line {
-                len,
-                remark: false,
-                long: true,
-            };
-        }
-        text[len] = b;
+        text[self.len] = b;
         Line {
-            len: len + 1,
-            remark: false,
-            long: self.long,
+            len: self.len + 1,
+            ..self
         }
     }
 }
