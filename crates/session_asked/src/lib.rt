@@ -1,11 +1,13 @@
 // A line of the script as a request. Whatever the format does not allow is malformed.
 #![tactic(auto)]
 
-ghost use Rattle.std.specs.Prelude.{◌≤◌, length};
+mod words;
+
+ghost use Rattle.std.specs.Prelude.{◌≤◌, IfSome, length};
 ghost use Rattle.session_asked.specs.Request.{Within};
 
-use rules::{Call, Cap, Estimate, Owner, Submission};
-use session_numbers::{Long, RealWord, Short};
+use rules::{Call, Estimate, Submission};
+use words::Words;
 
 // What a line asks for: a call of the simulator, or what the program makes of several, or of none.
 #[derive(Clone, Copy)]
@@ -37,58 +39,114 @@ pub struct Request {
     pub places: usize,
 }
 
-// A number that ends its line.
-#[derive(Clone, Copy)]
-enum Last {
-    Only(u32),
-    NoLast,
-}
-
-#[derive(Clone, Copy)]
-enum OwnerWord {
-    OwnerTo(Owner, usize),
-    NoOwner,
-}
-
-#[derive(Clone, Copy)]
-enum CapWord {
-    CapTo(Cap, usize),
-    NoCap,
-}
-
-// Where the numbers of a path end. They are put into a table of their own.
-#[derive(Clone, Copy)]
-enum PathWords {
-    PathTo(usize),
-    NoPath,
-}
-
 // ---- by the first word
 
 pub fn read(line: &[u8], path: &mut [u32]) -> Request
     requires { 128 ≤ length path.old }
     ensures { Within result }
 {
-    let word = session_words::next_word(line, 0);
-    let start = word.start;
-    let end = word.end;
-    let name = &line[start..end];
-    if check::same(name, b"submit") {
-        return submit(line, end, path);
+    let mut words = Words { line, at: 0 };
+    match asked(&mut words, path) {
+        Some(request) => request,
+        None => bare(Ask::Malformed),
     }
-    if check::same(name, b"advance") {
-        return advance(line, end);
+}
+
+fn asked(words: &mut Words, path: &mut [u32]) -> Option<Request>
+    requires { 128 ≤ length path.old }
+    ensures { IfSome result Within }
+{
+    match words.word() {
+        b"submit" => submit(words, path),
+        b"estimate_new" => estimate_new(words, path),
+        b"advance" => {
+            let time = words.double()?;
+            lending(words, Call::Advance(time))
+        }
+        b"take_completed" => {
+            let owner = words.owner()?;
+            lending(words, Call::TakeCompleted(owner))
+        }
+        b"owners_with_completions" => lending(words, Call::OwnersWithCompletions),
+        name => {
+            let ask = plain(name, words)?;
+            words.ended().then_some(bare(ask))
+        }
     }
-    if check::same(name, b"take_completed") {
-        return take_completed(line, end);
+}
+
+// The calls with neither a path nor a buffer, up to the end of their lines.
+fn plain(name: &[u8], words: &mut Words) -> Option<Ask> {
+    match name {
+        b"new" if words.ended() => Some(Ask::New),
+        b"new" => Some(Ask::NewWith(words.double()?)),
+        b"run_until" => Some(Ask::RunUntil(words.double()?)),
+        b"finish" => Some(Ask::Finish),
+        b"now" => Some(Ask::See(Look::Now)),
+        b"counts" => Some(Ask::See(Look::Counts)),
+        b"dump" => Some(Ask::See(Look::Dump)),
+        _ => Some(Ask::Make(call(name, words)?)),
     }
-    if check::same(name, b"owners_with_completions") {
-        return lending(line, end, Call::OwnersWithCompletions);
+}
+
+fn call(name: &[u8], words: &mut Words) -> Option<Call> {
+    match name {
+        b"add_edge" => Some(Call::AddEdge(words.double()?)),
+        b"widen" => Some(Call::Widen(words.short()?, words.double()?)),
+        b"mean_in_flight" => Some(Call::MeanInFlight(words.short()?, words.double()?)),
+        b"next_completion_delay" => Some(Call::NextCompletionDelay),
+        b"settle" => Some(Call::Settle),
+        b"rounds" => Some(Call::Rounds),
+        _ => call_by_number(name, words),
     }
-    if check::same(name, b"estimate_new") {
-        return estimate_new(line, end, path);
+}
+
+// The calls that only name a transfer or an edge.
+fn call_by_number(name: &[u8], words: &mut Words) -> Option<Call> {
+    let id = words.short()?;
+    match name {
+        b"cancel" => Some(Call::Cancel(id)),
+        b"remaining" => Some(Call::Remaining(id)),
+        b"rate" => Some(Call::Rate(id)),
+        b"bottleneck" => Some(Call::Bottleneck(id)),
+        b"contains" => Some(Call::Contains(id)),
+        b"edge" => Some(Call::Edge(id)),
+        _ => None,
     }
-    let ask = read_plain(name, line, end);
+}
+
+fn submit(words: &mut Words, path: &mut [u32]) -> Option<Request>
+    requires { 128 ≤ length path.old }
+    ensures { IfSome result Within }
+{
+    let call = Call::Submit(Submission {
+        id: words.short()?,
+        owner: words.owner()?,
+        bytes: words.long()?,
+        latency: words.double()?,
+        cap: words.cap()?,
+        time: words.double()?,
+    });
+    along(words, path, call)
+}
+
+fn estimate_new(words: &mut Words, path: &mut [u32]) -> Option<Request>
+    requires { 128 ≤ length path.old }
+    ensures { IfSome result Within }
+{
+    let call = Call::EstimateNew(Estimate {
+        bytes: words.double()?,
+        latency: words.double()?,
+        cap: words.cap()?,
+    });
+    along(words, path, call)
+}
+
+// ---- how a line ends
+
+fn bare(ask: Ask) -> Request
+    ensures { Within result }
+{
     Request {
         ask,
         hops: 0,
@@ -96,331 +154,37 @@ pub fn read(line: &[u8], path: &mut [u32]) -> Request
     }
 }
 
-// The calls with neither a path nor a buffer.
-fn read_plain(name: &[u8], line: &[u8], at: usize) -> Ask {
-    if check::same(name, b"add_edge") {
-        return add_edge(line, at);
-    }
-    if check::same(name, b"widen") {
-        return widen(line, at);
-    }
-    if check::same(name, b"mean_in_flight") {
-        return mean_in_flight(line, at);
-    }
-    if check::same(name, b"run_until") {
-        return run_until(line, at);
-    }
-    read_short(name, line, at)
-}
-
-// The calls with one word or none.
-fn read_short(name: &[u8], line: &[u8], at: usize) -> Ask {
-    let word = session_words::next_word(line, at);
-    if word.start == word.end {
-        return read_bare(name);
-    }
-    if check::same(name, b"new") {
-        return new_with(line, at);
-    }
-    let Last::Only(id) = last_number(line, at) else {
-        return Ask::Malformed;
-    };
-    if check::same(name, b"cancel") {
-        return Ask::Make(Call::Cancel(id));
-    }
-    if check::same(name, b"remaining") {
-        return Ask::Make(Call::Remaining(id));
-    }
-    if check::same(name, b"rate") {
-        return Ask::Make(Call::Rate(id));
-    }
-    if check::same(name, b"bottleneck") {
-        return Ask::Make(Call::Bottleneck(id));
-    }
-    if check::same(name, b"contains") {
-        return Ask::Make(Call::Contains(id));
-    }
-    if check::same(name, b"edge") {
-        return Ask::Make(Call::Edge(id));
-    }
-    Ask::Malformed
-}
-
-// The calls that stand alone.
-fn read_bare(name: &[u8]) -> Ask {
-    if check::same(name, b"next_completion_delay") {
-        return Ask::Make(Call::NextCompletionDelay);
-    }
-    if check::same(name, b"settle") {
-        return Ask::Make(Call::Settle);
-    }
-    if check::same(name, b"new") {
-        return Ask::New;
-    }
-    if check::same(name, b"finish") {
-        return Ask::Finish;
-    }
-    if check::same(name, b"rounds") {
-        return Ask::Make(Call::Rounds);
-    }
-    if check::same(name, b"now") {
-        return Ask::See(Look::Now);
-    }
-    if check::same(name, b"counts") {
-        return Ask::See(Look::Counts);
-    }
-    if check::same(name, b"dump") {
-        return Ask::See(Look::Dump);
-    }
-    Ask::Malformed
-}
-
-// ---- one function for each call with several words
-
-fn submit(line: &[u8], at: usize, path: &mut [u32]) -> Request
-    requires { 128 ≤ length path.old }
-    ensures { Within result }
-{
-    let Short::ShortTo(id, at) = session_numbers::short_at(line, at) else {
-        return malformed();
-    };
-    let OwnerWord::OwnerTo(owner, at) = owner_at(line, at) else {
-        return malformed();
-    };
-    let Long::LongTo(bytes, at) = session_numbers::long_at(line, at) else {
-        return malformed();
-    };
-    let RealWord::RealTo(latency, at) = session_numbers::double_at(line, at) else {
-        return malformed();
-    };
-    let CapWord::CapTo(cap, at) = cap_at(line, at) else {
-        return malformed();
-    };
-    let RealWord::RealTo(time, at) = session_numbers::double_at(line, at) else {
-        return malformed();
-    };
-    along(
-        line,
-        at,
-        path,
-        Call::Submit(Submission {
-            id,
-            owner,
-            bytes,
-            latency,
-            cap,
-            time,
-        }),
-    )
-}
-
-fn estimate_new(line: &[u8], at: usize, path: &mut [u32]) -> Request
-    requires { 128 ≤ length path.old }
-    ensures { Within result }
-{
-    let RealWord::RealTo(bytes, at) = session_numbers::double_at(line, at) else {
-        return malformed();
-    };
-    let RealWord::RealTo(latency, at) = session_numbers::double_at(line, at) else {
-        return malformed();
-    };
-    let CapWord::CapTo(cap, at) = cap_at(line, at) else {
-        return malformed();
-    };
-    along(
-        line,
-        at,
-        path,
-        Call::EstimateNew(Estimate {
-            bytes,
-            latency,
-            cap,
-        }),
-    )
-}
-
-fn advance(line: &[u8], at: usize) -> Request
-    ensures { Within result }
-{
-    let RealWord::RealTo(time, at) = session_numbers::double_at(line, at) else {
-        return malformed();
-    };
-    lending(line, at, Call::Advance(time))
-}
-
-fn take_completed(line: &[u8], at: usize) -> Request
-    ensures { Within result }
-{
-    let OwnerWord::OwnerTo(owner, at) = owner_at(line, at) else {
-        return malformed();
-    };
-    lending(line, at, Call::TakeCompleted(owner))
-}
-
-fn add_edge(line: &[u8], at: usize) -> Ask {
-    let RealWord::RealTo(capacity, at) = session_numbers::double_at(line, at) else {
-        return Ask::Malformed;
-    };
-    alone(line, at, Ask::Make(Call::AddEdge(capacity)))
-}
-
-fn widen(line: &[u8], at: usize) -> Ask {
-    let Short::ShortTo(edge, at) = session_numbers::short_at(line, at) else {
-        return Ask::Malformed;
-    };
-    let RealWord::RealTo(amount, at) = session_numbers::double_at(line, at) else {
-        return Ask::Malformed;
-    };
-    alone(line, at, Ask::Make(Call::Widen(edge, amount)))
-}
-
-fn mean_in_flight(line: &[u8], at: usize) -> Ask {
-    let Short::ShortTo(edge, at) = session_numbers::short_at(line, at) else {
-        return Ask::Malformed;
-    };
-    let RealWord::RealTo(until, at) = session_numbers::double_at(line, at) else {
-        return Ask::Malformed;
-    };
-    alone(line, at, Ask::Make(Call::MeanInFlight(edge, until)))
-}
-
-fn new_with(line: &[u8], at: usize) -> Ask {
-    let RealWord::RealTo(floor, at) = session_numbers::double_at(line, at) else {
-        return Ask::Malformed;
-    };
-    alone(line, at, Ask::NewWith(floor))
-}
-
-fn run_until(line: &[u8], at: usize) -> Ask {
-    let RealWord::RealTo(time, at) = session_numbers::double_at(line, at) else {
-        return Ask::Malformed;
-    };
-    alone(line, at, Ask::RunUntil(time))
-}
-
-// ---- how a line ends
-
-fn malformed() -> Request
-    ensures { Within result }
-{
-    Request {
-        ask: Ask::Malformed,
-        hops: 0,
-        places: 0,
-    }
-}
-
-// With nothing more.
-fn alone(line: &[u8], at: usize, ask: Ask) -> Ask {
-    let word = session_words::next_word(line, at);
-    if word.start < word.end {
-        return Ask::Malformed;
-    }
-    ask
-}
-
 // With the length of the buffer that is lent.
-fn lending(line: &[u8], at: usize, call: Call) -> Request
-    ensures { Within result }
+fn lending(words: &mut Words, call: Call) -> Option<Request>
+    ensures { IfSome result Within }
 {
-    let Last::Only(places) = last_number(line, at) else {
-        return malformed();
-    };
-    if 1024 < places {
-        return malformed();
+    let places = words.short()? as usize;
+    if places > 1024 || !words.ended() {
+        return None;
     }
-    Request {
+    Some(Request {
         ask: Ask::Make(call),
         hops: 0,
-        places: places as usize,
-    }
+        places,
+    })
 }
 
 // With a path.
-fn along(line: &[u8], at: usize, path: &mut [u32], call: Call) -> Request
+fn along(words: &mut Words, path: &mut [u32], call: Call) -> Option<Request>
     requires { 128 ≤ length path.old }
-    ensures { Within result }
+    ensures { IfSome result Within }
 {
-    let Short::ShortTo(count, at) = session_numbers::short_at(line, at) else {
-        return malformed();
-    };
-    if 128 < count {
-        return malformed();
+    let hops = words.short()? as usize;
+    if hops > 128 {
+        return None;
     }
-    let PathWords::PathTo(end) = path_at(line, at, path, count as usize) else {
-        return malformed();
-    };
-    let word = session_words::next_word(line, end);
-    if word.start < word.end {
-        return malformed();
+    words.path(&mut path[..hops])?;
+    if !words.ended() {
+        return None;
     }
-    Request {
+    Some(Request {
         ask: Ask::Make(call),
-        hops: count as usize,
+        hops,
         places: 0,
-    }
-}
-
-fn last_number(line: &[u8], at: usize) -> Last {
-    let Short::ShortTo(n, at) = session_numbers::short_at(line, at) else {
-        return Last::NoLast;
-    };
-    let word = session_words::next_word(line, at);
-    if word.start < word.end {
-        return Last::NoLast;
-    }
-    Last::Only(n)
-}
-
-// ---- owners, caps, paths
-
-// Only a worker has a number: the other kinds have 0 there.
-fn owner_at(line: &[u8], at: usize) -> OwnerWord {
-    let Short::ShortTo(kind, at) = session_numbers::short_at(line, at) else {
-        return OwnerWord::NoOwner;
-    };
-    let Short::ShortTo(worker, at) = session_numbers::short_at(line, at) else {
-        return OwnerWord::NoOwner;
-    };
-    if kind == 0 {
-        return OwnerWord::OwnerTo(Owner::Worker(worker), at);
-    }
-    if worker == 0 {
-        if kind == 1 {
-            return OwnerWord::OwnerTo(Owner::Handoff, at);
-        }
-        if kind == 2 {
-            return OwnerWord::OwnerTo(Owner::Write, at);
-        }
-    }
-    OwnerWord::NoOwner
-}
-
-fn cap_at(line: &[u8], at: usize) -> CapWord {
-    let word = session_words::next_word(line, at);
-    let start = word.start;
-    let end = word.end;
-    if check::same(&line[start..end], b"-") {
-        return CapWord::CapTo(Cap::Uncapped, end);
-    }
-    let RealWord::RealTo(limit, at) = session_numbers::double_at(line, at) else {
-        return CapWord::NoCap;
-    };
-    CapWord::CapTo(Cap::AtMost(limit), at)
-}
-
-fn path_at(line: &[u8], from: usize, path: &mut [u32], count: usize) -> PathWords
-    requires { count ≤ length path.old }
-{
-    let mut at = from;
-    let mut i = 0;
-    while i < count {
-        let Short::ShortTo(edge, end) = session_numbers::short_at(line, at) else {
-            return PathWords::NoPath;
-        };
-        path[i] = edge;
-        at = end;
-        i += 1;
-    }
-    PathWords::PathTo(at)
+    })
 }
