@@ -1,13 +1,10 @@
 // A line of the script as a request. Whatever the format does not allow is malformed.
 #![tactic(auto)]
 
-mod words;
-
 ghost use Rattle.std.specs.Prelude.{◌≤◌, IfSome, length};
 ghost use Rattle.session_asked.specs.Request.{Within};
 
-use rules::{Call, Estimate, Submission};
-use words::Words;
+use rules::{Call, Cap, Estimate, Owner, Submission};
 
 // What a line asks for: a call of the simulator, or what the program makes of several, or of none.
 #[derive(Clone, Copy)]
@@ -46,10 +43,7 @@ pub fn read(line: &[u8], path: &mut [u32]) -> Request
     ensures { Within result }
 {
     let mut words = Words { line, at: 0 };
-    match asked(&mut words, path) {
-        Some(request) => request,
-        None => bare(Ask::Malformed),
-    }
+    asked(&mut words, path).unwrap_or(bare(Ask::Malformed))
 }
 
 fn asked(words: &mut Words, path: &mut [u32]) -> Option<Request>
@@ -187,4 +181,71 @@ fn along(words: &mut Words, path: &mut [u32], call: Call) -> Option<Request>
         hops,
         places: 0,
     })
+}
+
+// ---- the words that are still to be read, each taken as what is wanted there
+
+// The line, and where its last word that was read ends.
+#[derive(Clone, Copy)]
+struct Words<'a> {
+    line: &'a [u8],
+    at: usize,
+}
+
+impl<'a> Words<'a> {
+    // The next word, which is empty where the line has none left.
+    fn word(&mut self) -> &'a [u8] {
+        let word = session_words::next_word(self.line, self.at);
+        self.at = word.end;
+        &self.line[word.start..word.end]
+    }
+
+    fn ended(mut self) -> bool {
+        self.word().is_empty()
+    }
+
+    fn short(&mut self) -> Option<u32> {
+        let (n, end) = session_numbers::short_at(self.line, self.at)?;
+        self.at = end;
+        Some(n)
+    }
+
+    fn long(&mut self) -> Option<u64> {
+        let (n, end) = session_numbers::long_at(self.line, self.at)?;
+        self.at = end;
+        Some(n)
+    }
+
+    fn double(&mut self) -> Option<f64> {
+        let (x, end) = session_numbers::double_at(self.line, self.at)?;
+        self.at = end;
+        Some(x)
+    }
+
+    // Only a worker has a number: the other kinds have 0 there.
+    fn owner(&mut self) -> Option<Owner> {
+        match (self.short()?, self.short()?) {
+            (0, worker) => Some(Owner::Worker(worker)),
+            (1, 0) => Some(Owner::Handoff),
+            (2, 0) => Some(Owner::Write),
+            _ => None,
+        }
+    }
+
+    fn cap(&mut self) -> Option<Cap> {
+        let mut behind = *self;
+        if let b"-" = behind.word() {
+            *self = behind;
+            return Some(Cap::Uncapped);
+        }
+        Some(Cap::AtMost(self.double()?))
+    }
+
+    // A number for each hop.
+    fn path(&mut self, hops: &mut [u32]) -> Option<()> {
+        for hop in hops {
+            *hop = self.short()?;
+        }
+        Some(())
+    }
 }
