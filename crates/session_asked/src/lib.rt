@@ -71,42 +71,41 @@ fn asked(words: &mut Words, path: &mut [u32]) -> Option<Request>
 
 // The calls with neither a path nor a buffer, up to the end of their lines.
 fn plain(name: &[u8], words: &mut Words) -> Option<Ask> {
-    match name {
-        b"new" if words.ended() => Some(Ask::New),
-        b"new" => Some(Ask::NewWith(words.double()?)),
-        b"run_until" => Some(Ask::RunUntil(words.double()?)),
-        b"finish" => Some(Ask::Finish),
-        b"now" => Some(Ask::See(Look::Now)),
-        b"counts" => Some(Ask::See(Look::Counts)),
-        b"dump" => Some(Ask::See(Look::Dump)),
-        _ => Some(Ask::Make(call(name, words)?)),
-    }
+    Some(match name {
+        b"new" if words.ended() => Ask::New,
+        b"new" => Ask::NewWith(words.double()?),
+        b"run_until" => Ask::RunUntil(words.double()?),
+        b"finish" => Ask::Finish,
+        b"now" => Ask::See(Look::Now),
+        b"counts" => Ask::See(Look::Counts),
+        b"dump" => Ask::See(Look::Dump),
+        _ => Ask::Make(call(name, words)?),
+    })
 }
 
 fn call(name: &[u8], words: &mut Words) -> Option<Call> {
-    match name {
-        b"add_edge" => Some(Call::AddEdge(words.double()?)),
-        b"widen" => Some(Call::Widen(words.short()?, words.double()?)),
-        b"mean_in_flight" => Some(Call::MeanInFlight(words.short()?, words.double()?)),
-        b"next_completion_delay" => Some(Call::NextCompletionDelay),
-        b"settle" => Some(Call::Settle),
-        b"rounds" => Some(Call::Rounds),
-        _ => call_by_number(name, words),
-    }
+    Some(match name {
+        b"add_edge" => Call::AddEdge(words.double()?),
+        b"widen" => Call::Widen(words.short()?, words.double()?),
+        b"mean_in_flight" => Call::MeanInFlight(words.short()?, words.double()?),
+        b"next_completion_delay" => Call::NextCompletionDelay,
+        b"settle" => Call::Settle,
+        b"rounds" => Call::Rounds,
+        _ => call_by_number(name, words)?,
+    })
 }
 
 // The calls that only name a transfer or an edge.
 fn call_by_number(name: &[u8], words: &mut Words) -> Option<Call> {
-    let id = words.short()?;
-    match name {
-        b"cancel" => Some(Call::Cancel(id)),
-        b"remaining" => Some(Call::Remaining(id)),
-        b"rate" => Some(Call::Rate(id)),
-        b"bottleneck" => Some(Call::Bottleneck(id)),
-        b"contains" => Some(Call::Contains(id)),
-        b"edge" => Some(Call::Edge(id)),
-        _ => None,
-    }
+    Some(match name {
+        b"cancel" => Call::Cancel(words.short()?),
+        b"remaining" => Call::Remaining(words.short()?),
+        b"rate" => Call::Rate(words.short()?),
+        b"bottleneck" => Call::Bottleneck(words.short()?),
+        b"contains" => Call::Contains(words.short()?),
+        b"edge" => Call::Edge(words.short()?),
+        _ => return None,
+    })
 }
 
 fn submit(words: &mut Words, path: &mut [u32]) -> Option<Request>
