@@ -10,15 +10,15 @@ use Rattle.rules.specs.Advance.{quiet, advance}
 use Rattle.rules.specs.Refusals.{not_a_time}
 use Rattle.advance.proofs.advance.Goals as goal
 
-pub returns-then-strange : goal.returns-then-strange
-returns-then-strange c =
-    let odd : not_a_time c.args.until ≡ true = sym c.not_a_time-strange.ensures ∙ c.if-strange.true in
+pub returns-then-not_a_time : goal.returns-then-not_a_time
+returns-then-not_a_time c =
+    let odd : not_a_time c.args.until ≡ true = sym c.not_a_time.ensures ∙ c.if-not_a_time.true in
     let e = advance_no_time c.args.until c.args.flows c.args.out.now odd in record { exactly = rw (c.refused.ensures, e) refl; buffer = rw e refl; sound = rw c.refused.ensures c.requires }
 
-pub returns-then-earlier : goal.returns-then-earlier
-returns-then-earlier c =
-    let time : not_a_time c.args.until ≡ false = sym c.not_a_time-strange.ensures ∙ c.if-strange.false in
-    let e = advance_early c.args.until c.args.flows c.args.out.now time c.if-earlier.true in record { exactly = rw (c.refused-then-earlier.ensures, e) refl; buffer = rw e refl; sound = rw c.refused-then-earlier.ensures c.requires }
+pub returns-then-until-flows : goal.returns-then-until-flows
+returns-then-until-flows c =
+    let time : not_a_time c.args.until ≡ false = sym c.not_a_time.ensures ∙ c.if-not_a_time.false in
+    let e = advance_early c.args.until c.args.flows c.args.out.now time c.if-until-flows.true in record { exactly = rw (c.refused-then-until-flows.ensures, e) refl; buffer = rw e refl; sound = rw c.refused-then-until-flows.ensures c.requires }
 
 pub still-requires : goal.still-requires
 still-requires c =
@@ -29,22 +29,22 @@ returns-then-quiet c =
     let until = c.args.until in
     let flows = c.args.flows in
     let out = c.args.out.now in
-    let time : not_a_time until ≡ false = sym c.not_a_time-strange.ensures ∙ c.if-strange.false in
+    let time : not_a_time until ≡ false = sym c.not_a_time.ensures ∙ c.if-not_a_time.false in
     let still : quiet (read_zero until) flows ≡ true = ap (λ (u : Float). quiet u flows) (sym c.read_zero-time.ensures) ∙ sym c.quiet.ensures ∙ c.if-quiet.true in
-    let e = advance_still until flows out time c.if-earlier.false still in
+    let e = advance_still until flows out time c.if-until-flows.false still in
     let exactly : c.still.result ≡ (advance until flows out).outcome = rw (e, ← c.read_zero-time.ensures) c.still.ensures in record { exactly = exactly; buffer = rw e refl; sound = advance_sound until flows out (search rules) c.requires exactly }
 
 pub list_done-requires : goal.list_done-requires
 list_done-requires c =
     let until = c.args.until in
-    let time : not_a_time until ≡ false = sym c.not_a_time-strange.ensures ∙ c.if-strange.false in record { sound = c.requires; time = rw c.read_zero-time.ensures (time_clock until (search rules) time); later = rw c.read_zero-time.ensures (time_no_earlier until (search rules) time c.requires.clock.plain c.if-earlier.false) }
+    let time : not_a_time until ≡ false = sym c.not_a_time.ensures ∙ c.if-not_a_time.false in record { sound = c.requires; time = rw c.read_zero-time.ensures (time_clock until (search rules) time); later = rw c.read_zero-time.ensures (time_no_earlier until (search rules) time c.requires.clock.plain c.if-until-flows.false) }
 
-pub returns : goal.returns
-returns c =
+pub returns-else-quiet : goal.returns-else-quiet
+returns-else-quiet c =
     let until = c.args.until in
     let flows = c.args.flows in
     let out = c.args.out.now in
-    let time : not_a_time until ≡ false = sym c.not_a_time-strange.ensures ∙ c.if-strange.false in
+    let time : not_a_time until ≡ false = sym c.not_a_time.ensures ∙ c.if-not_a_time.false in
     let loud : quiet (read_zero until) flows ≡ false = ap (λ (u : Float). quiet u flows) (sym c.read_zero-time.ensures) ∙ sym c.quiet.ensures ∙ c.if-quiet.false in
-    let e = advance_lists until flows out time c.if-earlier.false loud in
+    let e = advance_lists until flows out time c.if-until-flows.false loud in
     let exactly : c.list_done.result ≡ (advance until flows out).outcome = rw (e, ← c.read_zero-time.ensures) c.list_done.ensures.exactly in record { exactly = exactly; buffer = rw (e, ← c.read_zero-time.ensures) c.list_done.ensures.buffer; sound = advance_sound until flows out (search rules) c.requires exactly }

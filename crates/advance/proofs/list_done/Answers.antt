@@ -8,24 +8,24 @@ use Rattle.queue.specs.declared.Table.{Table}
 use Rattle.rules.specs.Advance.{done_list}
 use Rattle.advance.proofs.list_done.Goals as goal
 
-pub returns-then-out-n : goal.returns-then-out-n
-returns-then-out-n c =
-    let d = c.settled-drained.result in
+pub returns-then-out-list : goal.returns-then-out-list
+returns-then-out-list c =
+    let d = c.settled.new.flows in
     let list = c.done_list-list.result in
     let long : list.count ≡ length (done_list d) = ap (λ (t : Table). t.count) c.done_list-list.ensures.exactly ∙ table_count (done_list d) in
-    let e = list_done_short d (done_list d) c.args.flows c.args.out.now list.count long (omega arith) in record { exactly = rw (c.refused.ensures, ← c.settled-drained.ensures.exactly, e) refl; buffer = rw (← c.settled-drained.ensures.exactly, e) refl }
+    let e = list_done_short d (done_list d) c.args.flows c.args.out.now list.count long (omega arith) in record { exactly = rw (c.refused.ensures, ← c.settled.ensures.exactly, e) refl; buffer = rw (← c.settled.ensures.exactly, e) refl }
 
-pub completed-after-requires : goal.completed-after-requires
-completed-after-requires c =
-    let settled = c.settled-drained in
+pub completed-requires : goal.completed-requires
+completed-requires c =
+    let settled = c.settled in
     let list = c.done_list-list in record { sound = settled.ensures.sound; drained = settled.ensures.drained; all = list.ensures.exactly; bounded = list.ensures.bounded }
 
 pub returns : goal.returns
 returns c =
-    let settled = c.settled-drained in
+    let settled = c.settled in
     let found = c.done_list-list in
-    let d = settled.result in
+    let d = settled.new.flows in
     let list = found.result in
     let long : list.count ≡ length (done_list d) = ap (λ (t : Table). t.count) found.ensures.exactly ∙ table_count (done_list d) in
     let all : take list.count list.entries ≡ done_list d = rw found.ensures.exactly (table_list (done_list d)) in
-    let e = list_done_all d (done_list d) c.args.flows c.args.out.now list.count long (omega (arith, c.if-out-n.false)) in record { exactly = rw (← settled.ensures.exactly, e, ← c.completed-after.ensures) refl; buffer = rw (← settled.ensures.exactly, e, ← all) c.write_triples.ensures }
+    let e = list_done_all d (done_list d) c.args.flows c.args.out.now list.count long (omega (arith, c.if-out-list.false)) in record { exactly = rw (← settled.ensures.exactly, e, ← c.completed.ensures) refl; buffer = rw (← settled.ensures.exactly, e, ← all) c.write_triples.ensures }

@@ -7,4 +7,4 @@ use Rattle.advance.proofs.settled.Goals as goal
 pub returns : goal.returns
 returns c =
     let args = c.args in
-    let e : c.ensure_rates.result ≡ settled args.until args.flows = c.ensure_rates.ensures.exactly ∙ ap ensure_rates c.drain_to-drained.ensures.exactly in record { exactly = e; sound = c.ensure_rates.ensures.sound; drained = rw e (settled_at_clock c.requires.sound c.requires.time c.requires.later) }
+    let e : c.ensure_rates.new.flows ≡ settled args.until args.flows.now = c.ensure_rates.ensures.exactly ∙ ap ensure_rates c.drain_to.ensures.exactly in record { exactly = e; sound = c.ensure_rates.ensures.sound; drained = rw e (settled_at_clock c.requires.sound c.requires.time c.requires.later) }
