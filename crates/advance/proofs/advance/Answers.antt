@@ -7,6 +7,8 @@ use Rattle.advance.proofs.Advanced.{advance_no_time, advance_early, advance_stil
 use Rattle.doubles.specs.Doubles.{read_zero}
 use Rattle.keeps.proofs.Arguments.{time_clock, time_no_earlier}
 use Rattle.rules.specs.Advance.{quiet, advance}
+use Rattle.rules.specs.declared.Answer.TheVariants.{Listed}
+use Rattle.rules.specs.declared.Outcome.{Outcome}
 use Rattle.rules.specs.Refusals.{not_a_time}
 use Rattle.advance.proofs.advance.Goals as goal
 
@@ -32,15 +34,15 @@ returns-then-quiet c =
     let time : not_a_time until ≡ false = sym c.not_a_time.ensures ∙ c.if-not_a_time.false in
     let still : quiet (read_zero until) flows ≡ true = ap (λ (u : Float). quiet u flows) (sym c.read_zero-time.ensures) ∙ sym c.quiet.ensures ∙ c.if-quiet.true in
     let e = advance_still until flows out time c.if-until-flows.false still in
-    let exactly : c.still.result ≡ (advance until flows out).outcome = rw (e, ← c.read_zero-time.ensures) c.still.ensures in record { exactly = exactly; buffer = rw e refl; sound = advance_sound until flows out (search rules) c.requires exactly }
+    let exactly : ◌≡◌ {A = Outcome} (record { answer = Listed 0; flows = c.still.new.flows }) (advance until flows out).outcome = rw (e, ← c.read_zero-time.ensures, c.still.ensures) refl in record { exactly = exactly; buffer = rw e refl; sound = advance_sound until flows out (search rules) c.requires exactly }
 
 pub list_done-requires : goal.list_done-requires
 list_done-requires c =
     let until = c.args.until in
     let time : not_a_time until ≡ false = sym c.not_a_time.ensures ∙ c.if-not_a_time.false in record { sound = c.requires; time = rw c.read_zero-time.ensures (time_clock until (search rules) time); later = rw c.read_zero-time.ensures (time_no_earlier until (search rules) time c.requires.clock.plain c.if-until-flows.false) }
 
-pub returns-else-quiet : goal.returns-else-quiet
-returns-else-quiet c =
+pub returns : goal.returns
+returns c =
     let until = c.args.until in
     let flows = c.args.flows in
     let out = c.args.out.now in

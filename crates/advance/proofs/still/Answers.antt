@@ -4,6 +4,3 @@ use Rattle.advance.proofs.still.Goals as goal
 
 pub pass_time-requires : goal.pass_time-requires
 pass_time-requires c = record { places = c.requires.sound.edge_places; right = fresh_load c.requires.sound c.requires.fresh }
-
-pub returns : goal.returns
-returns c = rw (← c.pass_time.ensures)

@@ -9,9 +9,6 @@ use Rattle.rules.proofs.Fronts.{written_none, written_three}
 use Rattle.rules.proofs.Steps.{drop_one}
 use Rattle.advance.proofs.write_triples.Goals as goal
 
-pub loop-i-init : goal.loop-i-init
-loop-i-init c = refl
-
 pub loop-i-preserved : goal.loop-i-preserved
 unfolding triples
 loop-i-preserved c =
