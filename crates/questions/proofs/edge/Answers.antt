@@ -8,15 +8,11 @@ use Rattle.rules.specs.Records.{blank_edge}
 use Rattle.rules.specs.Refusals.{refusing}
 use Rattle.questions.proofs.edge.Goals as goal
 
-pub returns-then-no_such_edge : goal.returns-then-no_such_edge
-unfolding edge refusing
-returns-then-no_such_edge c = rw (← c.no_such_edge.ensures, c.if-no_such_edge.true)
-
-pub bounds-edges-e : goal.bounds-edges-e
-bounds-edges-e c = omega (arith, there c.requires c.args.edge (sym c.no_such_edge.ensures ∙ c.if-no_such_edge.false), c.wide-e.ensures)
+pub bounds-flows-wide : goal.bounds-flows-wide
+bounds-flows-wide c = omega (arith, there c.requires c.args.edge (sym c.no_such_edge.ensures ∙ c.if-no_such_edge.false), c.wide.ensures)
 
 pub returns : goal.returns
 unfolding edge refusing
 returns c =
     let inside = there c.requires c.args.edge (sym c.no_such_edge.ensures ∙ c.if-no_such_edge.false) in
-    rw (← c.no_such_edge.ensures, c.if-no_such_edge.false, c.wide-e.ensures, ← get_d_any c.args.flows.edges c.args.edge blank_edge)
+    rw (← c.no_such_edge.ensures, c.if-no_such_edge.false, c.wide.ensures, ← get_d_any c.args.flows.edges c.args.edge blank_edge)
