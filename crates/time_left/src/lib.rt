@@ -8,46 +8,46 @@ ghost use Rattle.rules.specs.Invariant.{Invariant};
 use rules::{Answer, Clock, Delay, Flows, Outcome, TimeLeft, Transfer};
 
 // Drained to the clock, and rates brought up to date: what is read next is of now.
-pub fn settle(flows: Flows) -> Outcome
+#[tactic(auto, unfolding(rules::specs::TimeLeft::settle))]
+pub fn settle(mut flows: Flows) -> Outcome
     requires { Invariant flows }
     ensures exactly { result ≡ settle flows }
     ensures sound { Invariant result.flows }
 {
-    let drained = clock::drained_to_clock(flows);
-    let after = clock::ensure_rates(drained);
+    clock::drained_to_clock(&mut flows);
+    clock::ensure_rates(&mut flows);
     Outcome {
         answer: Answer::Done,
-        flows: after,
+        flows,
     }
 }
 
 // How long a transfer still takes by what the last drain left of it, and whether that is behind. It hands no simulator back, for it changes none.
+#[tactic(auto, unfolding(rules::specs::TimeLeft::remaining, rules::specs::Done::done_eps))]
 pub fn remaining(flows: Flows, id: u32) -> TimeLeft
     ensures { result ≡ remaining id flows }
 {
-    let in_flight = flows.in_flight;
-    let tolerance = flows.tolerance;
-    let clock = flows.clock;
-    let eps = transfers::done_eps(tolerance, clock.now);
-    let answer = remaining_in(in_flight, id, eps);
+    let eps = transfers::done_eps(flows.tolerance, flows.clock.now);
     TimeLeft {
-        answer: answer,
-        behind: behind(clock),
+        answer: remaining_in(&flows.in_flight, id, eps),
+        behind: behind(flows.clock),
     }
 }
 
 // The time to done of the transfer with that id, if one has it.
-fn remaining_in(in_flight: [Transfer; 256], id: u32, eps: f64) -> Answer
-    ensures { result ≡ remaining_in id eps in_flight }
+fn remaining_in(in_flight: &[Transfer; 256], id: u32, eps: f64) -> Answer
+    ensures { result ≡ remaining_in id eps in_flight.now }
 {
     let t = slots::of_id(in_flight, id);
     if t.taken {
-        return or_cannot_finish(transfers::time_to_done(t, eps));
+        or_cannot_finish(transfers::time_to_done(t, eps))
+    } else {
+        Answer::Unknown
     }
-    Answer::Unknown
 }
 
 // A delay as an answer; one that never ends is no time.
+#[tactic(auto, unfolding(rules::specs::TimeLeft::or_cannot_finish))]
 fn or_cannot_finish(d: Delay) -> Answer
     ensures { result ≡ or_cannot_finish d }
 {
@@ -58,6 +58,7 @@ fn or_cannot_finish(d: Delay) -> Answer
 }
 
 // Whether the last drain lies before the clock, or rates are stale.
+#[tactic(auto, unfolding(rules::specs::TimeLeft::behind))]
 fn behind(clock: Clock) -> bool
     ensures { result ≡ behind clock }
 {
