@@ -1,4 +1,4 @@
-// Text put on a page: a buffer that its owner writes out whenever it is nearly full. Each function answers the place behind what it put.
+// Text put on a page: a buffer that its owner writes out whenever it is nearly full. What is put on it stands behind what is there.
 #![tactic(auto)]
 
 ghost use Rattle.std.specs.Prelude.{◌≡◌, ◌+◌, ◌-◌, ◌<◌, ◌≤◌, length};
@@ -6,57 +6,91 @@ ghost use Rattle.io.specs.Digits.{last_digits, IsDigitCount};
 ghost use Rattle.doubles.specs.Doubles.{bits_of};
 ghost use Rattle.session_pages.specs.Page.{with_text, is_readable};
 
-pub fn put_text(page: &mut [u8; 65536], at: usize, text: &[u8]) -> usize
-    requires { at + length text.now ≤ 65536 }
-    ensures behind { result ≡ at + length text.now }
-    ensures written { page.new ≡ with_text page.old at text.now }
-{
-    copy_in(page, at, text)
+// A page, and how much of it has been put there.
+pub struct Page {
+    pub text: [u8; 65536],
+    pub len: usize,
+    pub ghost within: { len ≤ 65536 },
 }
 
-fn copy_in(page: &mut [u8], at: usize, text: &[u8]) -> usize
-    requires { at + length text.now ≤ length page.old }
-    ensures behind { result ≡ at + length text.now }
-    ensures written { page.new ≡ with_text page.old at text.now }
-{
-    let mut i = 0;
-    while i < text.len() {
-        page[at + i] = text[i];
-        i += 1;
+impl Page {
+    pub fn new() -> Self
+        ensures { result.len ≡ 0 }
+    {
+        Page {
+            text: [0; 65536],
+            len: 0,
+        }
     }
-    at + i
-}
 
-// A number in decimal, with no zero in front.
-pub fn put_number(page: &mut [u8; 65536], at: usize, n: u64) -> usize
-    requires { at + 20 ≤ 65536 }
-    ensures behind { (at < result) × (result ≤ at + 20) }
-    ensures shortest { IsDigitCount 10 1 n (result - at) }
-    ensures written { page.new ≡ with_text page.old at (last_digits 10 (result - at) n) }
-{
-    let mut text = [0u8; 20];
-    let k = io::decimal(n, &mut text);
-    put_text(page, at, &text[..k])
-}
+    pub fn put_text(&mut self, text: &[u8])
+        requires { self.old.len + length text.now ≤ 65536 }
+        ensures behind { self.new.len ≡ self.old.len + length text.now }
+        ensures written { self.new.text ≡ with_text self.old.text self.old.len text.now }
+    {
+        let end = self.len + text.len();
+        self.text[self.len..end].copy_from_slice(text);
+        self.len = end;
+    }
 
-// A number as sixteen hexadecimal digits.
-pub fn put_hex(page: &mut [u8; 65536], at: usize, n: u64) -> usize
-    requires { at + 16 ≤ 65536 }
-    ensures behind { result ≡ at + 16 }
-    ensures written { page.new ≡ with_text page.old at (last_digits 16 16 n) }
-{
-    let mut text = [0u8; 16];
-    let k = io::hex(n, 16, &mut text);
-    put_text(page, at, &text[..k])
-}
+    // A number in decimal, with no zero in front.
+    pub fn put_number(&mut self, n: u64)
+        requires { self.old.len + 20 ≤ 65536 }
+        ensures behind { (self.old.len < self.new.len) × (self.new.len ≤ self.old.len + 20) }
+        ensures shortest { IsDigitCount 10 1 n (self.new.len - self.old.len) }
+        ensures written { self.new.text ≡ with_text self.old.text self.old.len (last_digits 10 (self.new.len - self.old.len) n) }
+    {
+        let mut text = [0u8; 20];
+        let k = io::decimal(n, &mut text);
+        self.put_text(&text[..k]);
+    }
 
-// The bits of a double, every NaN having the same.
-pub fn put_double(page: &mut [u8; 65536], at: usize, x: f64) -> usize
-    requires { at + 16 ≤ 65536 }
-    ensures behind { result ≡ at + 16 }
-    ensures written { page.new ≡ with_text page.old at (last_digits 16 16 (bits_of x)) }
-{
-    put_hex(page, at, doubles::bits_of(x))
+    // A number as sixteen hexadecimal digits.
+    pub fn put_hex(&mut self, n: u64)
+        requires { self.old.len + 16 ≤ 65536 }
+        ensures behind { self.new.len ≡ self.old.len + 16 }
+        ensures written { self.new.text ≡ with_text self.old.text self.old.len (last_digits 16 16 n) }
+    {
+        let mut text = [0u8; 16];
+        let k = io::hex(n, 16, &mut text);
+        self.put_text(&text[..k]);
+    }
+
+    // The bits of a double, every NaN having the same.
+    pub fn put_double(&mut self, x: f64)
+        requires { self.old.len + 16 ≤ 65536 }
+        ensures behind { self.new.len ≡ self.old.len + 16 }
+        ensures written { self.new.text ≡ with_text self.old.text self.old.len (last_digits 16 16 (bits_of x)) }
+    {
+        self.put_hex(doubles::bits_of(x));
+    }
+
+    // A readable double with six places, the last one rounded to the nearest.
+    pub fn put_fixed(&mut self, x: f64)
+        requires { self.old.len + 48 ≤ 65536 }
+        ensures { (self.old.len ≤ self.new.len) × (self.new.len ≤ self.old.len + 48) }
+    {
+        if x < 0.0 {
+            self.put_text(b"-");
+            self.put_size(-x);
+        } else {
+            self.put_size(x);
+        }
+    }
+
+    // The millionths are put behind a million, whose own digit is left out, so that none of their zeros is.
+    fn put_size(&mut self, size: f64)
+        requires { self.old.len + 47 ≤ 65536 }
+        ensures { (self.old.len ≤ self.new.len) × (self.new.len ≤ self.old.len + 47) }
+    {
+        let whole = down(size);
+        let millionths = down((size - doubles::whole(whole)) * 1000000.0 + 0.5);
+        let mut text = [0u8; 20];
+        let k = io::decimal(1000000 + millionths % 1000000, &mut text);
+        self.put_number(whole.wrapping_add(millionths / 1000000));
+        self.put_text(b".");
+        self.put_text(&text[1..k]);
+    }
 }
 
 // ---- a double in decimal, for people: what is compared are its bits
@@ -65,49 +99,14 @@ pub fn put_double(page: &mut [u8; 65536], at: usize, x: f64) -> usize
 pub fn readable(x: f64) -> bool
     ensures { result ≡ is_readable x }
 {
-    if x < 9007199254740992.0 {
-        -9007199254740992.0 < x
-    } else {
-        false
-    }
-}
-
-// A readable double with six places, the last one rounded to the nearest.
-pub fn put_fixed(page: &mut [u8; 65536], at: usize, x: f64) -> usize
-    requires { at + 48 ≤ 65536 }
-    ensures { (at ≤ result) × (result ≤ at + 48) }
-{
-    if x < 0.0 {
-        let next = put_text(page, at, b"-");
-        return put_size(page, next, -x);
-    }
-    put_size(page, at, x)
-}
-
-// The millionths are put behind a million, whose own digit is left out, so that none of their zeros is.
-fn put_size(page: &mut [u8; 65536], at: usize, size: f64) -> usize
-    requires { at + 47 ≤ 65536 }
-    ensures { (at ≤ result) × (result ≤ at + 47) }
-{
-    let whole = down(size);
-    let millionths = down((size - doubles::whole(whole)) * 1000000.0 + 0.5);
-    let mut text = [0u8; 20];
-    let k = io::decimal(1000000 + millionths % 1000000, &mut text);
-    let point = put_number(
-        page,
-        at,
-        std::num::wrapping_add_u64(whole, millionths / 1000000),
-    );
-    let after = put_text(page, point, b".");
-    put_text(page, after, &text[1..k])
+    -9007199254740992.0 < x && x < 9007199254740992.0
 }
 
 // The whole number below, and 0 where there is none.
 fn down(x: f64) -> u64 {
-    if x > -1.0 {
-        if x < 18446744073709551616.0 {
-            return std::num::truncating_f64_to_u64(x);
-        }
+    if x > -1.0 && x < 18446744073709551616.0 {
+        std::num::truncating_f64_to_u64(x)
+    } else {
+        0
     }
-    0
 }

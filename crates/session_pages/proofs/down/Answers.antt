@@ -1,4 +1,4 @@
--- `script::remark::down` meets its contract: the two tests are what the cast asks. Assumes nothing.
+-- `session_pages::down` meets its contract: the two tests are what the cast asks. Assumes nothing.
 use Rattle.std.proofs.Common.{T, sym, subst}
 use lib.Ieee.{of_bits, neg}
 use Rattle.session_pages.proofs.down.Goals as goal
