@@ -7,73 +7,71 @@ ghost use Rattle.std.specs.Prelude.{◌+◌, ◌≤◌, length};
 
 pub use page::{fail, room, write_out};
 use rules::{Limit, Owner, Tally};
-use session_pages::{put_double, put_number, put_text};
+use session_pages::Page;
 
-pub fn spaced(page: &mut [u8; 65536], at: usize, n: u64) -> usize
-    requires { at ≤ 65500 }
-    ensures { result ≤ at + 21 }
+pub fn spaced(page: &mut Page, n: u64)
+    requires { page.old.len ≤ 65500 }
+    ensures { page.new.len ≤ page.old.len + 21 }
 {
-    let next = put_text(page, at, b" ");
-    put_number(page, next, n)
+    page.put_text(b" ");
+    page.put_number(n);
 }
 
 // A number behind its name.
-pub fn named(page: &mut [u8; 65536], at: usize, name: &[u8], n: u64) -> usize
-    requires { (length name.now ≤ 8) × (at ≤ 65000) }
-    ensures { result ≤ at + 29 }
+pub fn named(page: &mut Page, name: &[u8], n: u64)
+    requires { (length name.now ≤ 8) × (page.old.len ≤ 65000) }
+    ensures { page.new.len ≤ page.old.len + 29 }
 {
-    let next = put_text(page, at, name);
-    spaced(page, next, n)
+    page.put_text(name);
+    spaced(page, n);
 }
 
 // The digits of a number below 2^32 are at most ten.
-pub fn spaced_short(page: &mut [u8; 65536], at: usize, n: u32) -> usize
-    requires { at ≤ 65500 }
-    ensures { result ≤ at + 11 }
+pub fn spaced_short(page: &mut Page, n: u32)
+    requires { page.old.len ≤ 65500 }
+    ensures { page.new.len ≤ page.old.len + 11 }
 {
-    let next = put_text(page, at, b" ");
-    put_number(page, next, n as u64)
+    page.put_text(b" ");
+    page.put_number(u64::from(n));
 }
 
-pub fn spaced_double(page: &mut [u8; 65536], at: usize, x: f64) -> usize
-    requires { at ≤ 65500 }
-    ensures { result ≤ at + 17 }
+pub fn spaced_double(page: &mut Page, x: f64)
+    requires { page.old.len ≤ 65500 }
+    ensures { page.new.len ≤ page.old.len + 17 }
 {
-    let next = put_text(page, at, b" ");
-    put_double(page, next, x)
+    page.put_text(b" ");
+    page.put_double(x);
 }
 
 // An owner's kind, and its worker number or 0.
-pub fn spaced_owner(page: &mut [u8; 65536], at: usize, owner: Owner) -> usize
-    requires { at ≤ 65400 }
-    ensures { result ≤ at + 13 }
+pub fn spaced_owner(page: &mut Page, owner: Owner)
+    requires { page.old.len ≤ 65400 }
+    ensures { page.new.len ≤ page.old.len + 13 }
 {
-    let kind = owners::owner_kind(owner);
-    let worker = owners::owner_worker(owner);
-    let next = put_text(page, at, b" ");
-    let next = put_number(page, next, kind as u64);
-    spaced_short(page, next, worker)
+    page.put_text(b" ");
+    page.put_number(u64::from(owners::owner_kind(owner)));
+    spaced_short(page, owners::owner_worker(owner));
 }
 
 // Why a transfer is no faster, with no blank in front.
-pub fn limit(page: &mut [u8; 65536], at: usize, limit: Limit) -> usize
-    requires { at ≤ 65000 }
-    ensures { result ≤ at + 29 }
+pub fn limit(page: &mut Page, limit: Limit)
+    requires { page.old.len ≤ 65000 }
+    ensures { page.new.len ≤ page.old.len + 29 }
 {
     match limit {
-        Limit::AtEdge(e) => named(page, at, b"edge", e as u64),
-        Limit::AtCap => put_text(page, at, b"cap"),
-        Limit::Nowhere => put_text(page, at, b"none"),
+        Limit::AtEdge(e) => named(page, b"edge", e as u64),
+        Limit::AtCap => page.put_text(b"cap"),
+        Limit::Nowhere => page.put_text(b"none"),
     }
 }
 
 // What has been counted of a kind.
-pub fn tally(page: &mut [u8; 65536], at: usize, tally: Tally) -> usize
-    requires { at ≤ 65000 }
-    ensures { result ≤ at + 80 }
+pub fn tally(page: &mut Page, tally: Tally)
+    requires { page.old.len ≤ 65000 }
+    ensures { page.new.len ≤ page.old.len + 80 }
 {
-    let next = spaced(page, at, tally.submitted);
-    let next = spaced(page, next, tally.completed);
-    let next = spaced(page, next, tally.cancelled);
-    spaced_double(page, next, tally.bytes_submitted)
+    spaced(page, tally.submitted);
+    spaced(page, tally.completed);
+    spaced(page, tally.cancelled);
+    spaced_double(page, tally.bytes_submitted);
 }

@@ -1,34 +1,27 @@
 // The page that answers gather on, so that many lines are one write.
-ghost use Rattle.std.specs.Prelude.{◌≤◌, ◌≡◌, length};
+ghost use Rattle.std.specs.Prelude.{◌≤◌, ◌≡◌};
 
+use session_pages::Page;
 use std::io;
 
-// Where the next line may begin: every line has 16,384 bytes of room.
-pub fn room<R: Print + Eprint + Alloc>(rt: &R, page: &mut [u8; 65536], at: usize) -> usize
-    requires { at ≤ 65536 }
-    ensures { result ≤ 49152 }
+// Before the next line begins: every line has 16,384 bytes of room.
+pub fn room<R: Print + Eprint + Alloc>(rt: &R, page: &mut Page)
+    ensures { page.new.len ≤ 49152 }
 {
-    if at <= 49152 {
-        return at;
+    if page.len > 49152 {
+        write_out(rt, page);
     }
-    write_out(rt, page, at)
 }
 
-// Writes out what stands before a place. The page is free again from its start, which is the answer.
-pub fn write_out<R: Print + Eprint + Alloc>(rt: &R, page: &[u8; 65536], at: usize) -> usize
-    requires { at ≤ 65536 }
-    ensures { result ≡ 0 }
+// Writes out what was put on a page, which is free again from its start.
+pub fn write_out<R: Print + Eprint + Alloc>(rt: &R, page: &mut Page)
+    ensures behind { page.new.len ≡ 0 }
+    ensures kept { page.new.text ≡ page.old.text }
 {
-    write_front(rt, page, at);
-    0
-}
-
-fn write_front<R: Print + Eprint + Alloc>(rt: &R, page: &[u8], at: usize)
-    requires { at ≤ length page.now }
-{
-    if let Err(error) = rt.write_all(&page[..at]) {
+    if let Err(error) = rt.write_all(&page.text[..page.len]) {
         fail(rt, "standard output", error);
     }
+    page.len = 0;
 }
 
 // A line on standard error: what failed, as the caller names it, and why. Where that cannot be written either, nothing is left to tell it to.
