@@ -7,6 +7,7 @@ ghost use Rattle.doubles.specs.Doubles.{bits_of};
 ghost use Rattle.session_pages.specs.Page.{with_text, is_readable};
 
 // A page, and how much of it has been put there.
+#[derive(Drop)]
 pub struct Page {
     pub text: [u8; 65536],
     pub len: usize,
