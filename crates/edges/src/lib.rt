@@ -61,11 +61,6 @@ fn no_widening(flows: &Flows, e: usize, amount: f64) -> bool
     requires { Invariant flows.now }
     ensures { result ≡ no_widening amount e flows.now }
 {
-    if arguments::not_finite(amount) {
-        return true;
-    }
-    if flows.num_edges <= e {
-        return false;
-    }
-    arguments::not_an_amount(flows.edges[e].capacity + amount)
+    arguments::not_finite(amount)
+        || e < flows.num_edges && arguments::not_an_amount(flows.edges[e].capacity + amount)
 }
