@@ -1,12 +1,13 @@
 -- A table that counts who takes part gives each edge of a known path the share of the rule, and the path is known where no missing edge is named. Assumes nothing.
 use mathlib.Core.Path.{◌≡◌, refl, ap, ◌∙◌}
-use mathlib.Core.Bool.{false}
+use mathlib.Core.Bool.{false, cond}
 use mathlib.Core.List.{List, [], ◌∷◌, foldl}
 use Prim.Native.Nat.{ℕ, suc, ◌+◌, ◌<◌}
 use native.Mathlib.Omega.{arith}
-use lib.Dec.{leb}
+use lib.Dec.{leb, eqb-suc-zero}
 use lib.ListN.{length, get_or}
 use lib.Ieee.{Float}
+use Rattle.std.specs.Bool.{◌==◌}
 use Rattle.doubles.specs.Doubles.{◌⊘◌, smaller, whole, infinity}
 use Rattle.rules.specs.declared.Cap.{Cap}
 use Rattle.rules.specs.declared.Edge.{Edge}
@@ -46,16 +47,10 @@ module _ (f : Flows) where
   least_share path known = least_is path known infinity
 
 -- ---- by the path's length
-module _ (f : Flows) (bytes latency : Float) (cap : Cap) where
-  pub over_none : (path : List ℕ) → length path ≡ 0 → estimate f path bytes latency cap ≡ time_alone latency bytes cap
-  unfolding estimate
-  over_none [] h = refl
-  over_none (e ∷ path) h = absurd (omega arith)
-
-  pub over_some : (path : List ℕ) → (length path ≡ 0 → ⊥) → estimate f path bytes latency cap ≡ time_at_share latency bytes (share_or_cap cap (path_share f path))
-  unfolding estimate
-  over_some [] h = absurd (h refl)
-  over_some (e ∷ path) h = refl
+pub by_length : (f : Flows) (path : List ℕ) (bytes latency : Float) (cap : Cap) → estimate f path bytes latency cap ≡ cond (length path == 0) (time_alone latency bytes cap) (time_at_share latency bytes (share_or_cap cap (path_share f path)))
+unfolding estimate
+by_length f [] bytes latency most = refl
+by_length f (e ∷ path) bytes latency most = rw (eqb-suc-zero (length path))
 
 -- ---- a path that names no missing edge
 pub names_none : (f : Flows) (path : List ℕ) → any (no_such_edge f) path ≡ any (leb f.num_edges) path

@@ -10,10 +10,10 @@ ghost use Rattle.rules.specs.Invariant.{Invariant};
 ghost use Rattle.paths.specs.Known.{Known};
 ghost use Rattle.crossings.specs.Loads.{loads_by};
 
-use crossings::Counted;
 use rules::{Answer, Cap, Edge, Flows};
 
 // How long a new transfer would take without a cap of its own.
+#[tactic(auto, unfolding(rules::specs::Questions::estimate_new))]
 pub fn estimate_new(flows: Flows, path: &[u32], bytes: f64, latency: f64) -> Answer
     requires { Invariant flows }
     ensures { result ≡ estimate_new path.now bytes latency flows }
@@ -44,51 +44,41 @@ pub fn estimate_new_capped(
     let amount = doubles::read_zero(bytes);
     let wait = doubles::larger(doubles::read_zero(latency), 0.0);
     let cap = arguments::read_cap(rate_cap);
-    Answer::Value(estimate(flows, path, amount, wait, cap))
+    Answer::Value(estimate(&flows, path, amount, wait, cap))
 }
 
 // Whether one of the numbers cannot be taken.
 fn not_numbers(bytes: f64, latency: f64, cap: Cap) -> bool
     ensures { result ≡ (not_an_amount bytes || not_finite latency || not_a_cap cap) }
 {
-    if arguments::not_an_amount(bytes) {
-        true
-    } else if arguments::not_finite(latency) {
-        true
-    } else {
-        arguments::not_a_cap(cap)
-    }
+    arguments::not_an_amount(bytes) || arguments::not_finite(latency) || arguments::not_a_cap(cap)
 }
 
 // The time over a path whose edges there are. Everybody who takes part is counted once, and then the path is walked.
-fn estimate(flows: Flows, path: &[u32], bytes: f64, latency: f64, cap: Cap) -> f64
-    requires sound { Invariant flows }
+fn estimate(flows: &Flows, path: &[u32], bytes: f64, latency: f64, cap: Cap) -> f64
+    requires sound { Invariant flows.now }
     requires known { Known 64 path.now }
-    ensures { result ≡ estimate flows path.now bytes latency cap }
+    ensures { result ≡ estimate flows.now path.now bytes latency cap }
 {
-    if path.len() == 0 {
+    if path.is_empty() {
         return time_alone(latency, bytes, cap);
     }
-    let in_flight = flows.in_flight;
-    let load = crossings::loads_of(in_flight, Counted::TakingPart);
-    let share = path_share(flows, load, path);
+    let load = crossings::loads_of(&flows.in_flight, transfers::takes_part);
+    let share = path_share(flows, &load, path);
     time_at_share(latency, bytes, share_or_cap(cap, share))
 }
 
 // The smallest share along a path. What the later edges offer is compared with the least of the earlier ones.
-fn path_share(flows: Flows, load: [usize; 64], path: &[u32]) -> f64
-    requires sound { Invariant flows }
-    requires right { load ≡ loads_by takes_part flows.in_flight }
+fn path_share(flows: &Flows, load: &[usize; 64], path: &[u32]) -> f64
+    requires sound { Invariant flows.now }
+    requires right { load.now ≡ loads_by takes_part flows.now.in_flight }
     requires known { Known 64 path.now }
-    ensures { result ≡ path_share flows path.now }
+    ensures { result ≡ path_share flows.now path.now }
 {
-    let edges = flows.edges;
-    let mut share = 1.0 / 0.0;
-    let mut i: usize = 0;
-    while i < path.len() {
-        let e = arguments::wide(path[i]);
-        share = doubles::smaller(share, new_share(edges[e], load[e]));
-        i += 1;
+    let mut share = f64::INFINITY;
+    for hop in path {
+        let e = arguments::wide(*hop);
+        share = doubles::smaller(share, new_share(flows.edges[e], load[e]));
     }
     share
 }
@@ -102,6 +92,7 @@ fn new_share(edge: Edge, load: usize) -> f64
 }
 
 // A share, or the cap where that is smaller.
+#[tactic(auto, unfolding(rules::specs::Questions::share_or_cap))]
 fn share_or_cap(cap: Cap, share: f64) -> f64
     ensures { result ≡ share_or_cap cap share }
 {
@@ -112,20 +103,19 @@ fn share_or_cap(cap: Cap, share: f64) -> f64
 }
 
 // The time over shared edges, which never ends at a share of nothing; nor is an infinite share one to go by.
+#[tactic(auto, unfolding(rules::specs::Questions::time_at_share))]
 fn time_at_share(latency: f64, bytes: f64, share: f64) -> f64
     ensures { result ≡ time_at_share latency bytes share }
 {
-    if share <= 0.0 {
-        return 1.0 / 0.0;
-    }
-    if doubles::is_finite(share) {
-        latency + bytes / share
+    if share <= 0.0 || !doubles::is_finite(share) {
+        f64::INFINITY
     } else {
-        1.0 / 0.0
+        latency + bytes / share
     }
 }
 
 // The time where no edge is crossed: bytes count only under a cap above 0.
+#[tactic(auto, unfolding(rules::specs::Questions::time_alone))]
 fn time_alone(latency: f64, bytes: f64, cap: Cap) -> f64
     ensures { result ≡ time_alone latency bytes cap }
 {
