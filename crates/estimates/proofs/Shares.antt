@@ -15,7 +15,6 @@ use Rattle.rules.specs.declared.Flows.{Flows}
 use Rattle.rules.specs.Lists.{any}
 use Rattle.rules.specs.Records.{blank_edge}
 use Rattle.rules.specs.Filling.{takes_part}
-use Rattle.rules.specs.Refusals.{no_such_edge}
 use Rattle.rules.specs.Questions.{new_share, path_share, share_or_cap, time_at_share, time_alone, estimate}
 use Rattle.rules.specs.Invariant.{Invariant}
 use Rattle.paths.specs.Known.{Known}
@@ -53,9 +52,5 @@ by_length f [] bytes latency most = refl
 by_length f (e ∷ path) bytes latency most = rw (eqb-suc-zero (length path))
 
 -- ---- a path that names no missing edge
-pub names_none : (f : Flows) (path : List ℕ) → any (no_such_edge f) path ≡ any (leb f.num_edges) path
-unfolding no_such_edge
-names_none f path = refl
-
 pub known_path : {f : Flows} → Invariant f → (path : List ℕ) → any (leb f.num_edges) path ≡ false → Known 64 path
 known_path {f} inv path none = record { below = λ k h. omega (arith, known_by f.num_edges path none k h, inv.few_edges) }

@@ -22,6 +22,7 @@ pub fn estimate_new(flows: Flows, path: &[u32], bytes: f64, latency: f64) -> Ans
 }
 
 // How long a new transfer would take, with or without a cap. Nothing is drained for it.
+#[tactic(auto, using(crate::proofs::Shares::known_path), unfolding(rules::specs::Questions::estimate_new_capped, rules::specs::Refusals::refusing, rules::specs::Refusals::too_long, rules::specs::Refusals::no_such_edge))]
 pub fn estimate_new_capped(
     flows: Flows,
     path: &[u32],
@@ -55,6 +56,7 @@ fn not_numbers(bytes: f64, latency: f64, cap: Cap) -> bool
 }
 
 // The time over a path whose edges there are. Everybody who takes part is counted once, and then the path is walked.
+#[tactic(auto, using(crate::proofs::Shares::by_length))]
 fn estimate(flows: &Flows, path: &[u32], bytes: f64, latency: f64, cap: Cap) -> f64
     requires sound { Invariant flows.now }
     requires known { Known 64 path.now }
