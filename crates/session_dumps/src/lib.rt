@@ -15,6 +15,7 @@ use session_pages::Page;
 pub fn dump<R: Print + Eprint + Alloc>(rt: &R, flows: Flows, page: &mut Page)
     requires invariant { Invariant flows }
     requires at_bound { page.old.len ≤ 49152 }
+    ensures { page.new.len ≤ 65536 }
 {
     times(page, flows.clock);
     sizes(page, flows);

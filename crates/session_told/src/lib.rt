@@ -18,6 +18,7 @@ use session_pages::{Page, readable};
 pub fn said(said: Said, width: usize, lent: &[u32], page: &mut Page)
     requires fits_said { FitsSaid width (length lent.now) said }
     requires lent_len_bound { (length lent.now ≤ 1024) × (page.old.len ≤ 49152) }
+    ensures { page.new.len ≤ 65536 }
 {
     match said {
         Said::Answered(given) => answer(given, width, lent, page),
@@ -190,6 +191,7 @@ pub fn width(call: Call) -> usize
 pub fn look<R: Print + Eprint + Alloc>(rt: &R, flows: Flows, look: Look, page: &mut Page)
     requires invariant { Invariant flows }
     requires at_bound { page.old.len ≤ 49152 }
+    ensures { page.new.len ≤ 65536 }
 {
     match look {
         Look::Now => valued(page, b"value ", flows::now(flows)),
