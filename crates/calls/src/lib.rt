@@ -11,6 +11,7 @@ ghost use Rattle.rules.specs.Invariant.{Invariant};
 use rules::{Call, Estimate, Flows, Made, Outcome, Said, Submission};
 
 // Makes a call, with the path and the buffer that are lent beside it; most calls use neither.
+#[tactic(auto, using(crate::proofs::Asked::owners_asked), unfolding(rules::specs::Histories::call))]
 pub fn make(flows: Flows, call: Call, path: &[u32], lent: &mut [u32]) -> Made
     requires { Invariant flows }
     ensures exactly { result ≡ (the_call call path.now flows lent.old).made }
@@ -24,21 +25,18 @@ pub fn make(flows: Flows, call: Call, path: &[u32], lent: &mut [u32]) -> Made
         Call::AddEdge(capacity) => changing(edges::add_edge(flows, capacity)),
         Call::Widen(edge, amount) => changing(edges::widen(flows, edge, amount)),
         Call::TakeCompleted(owner) => changing(collecting::take_completed(flows, owner, lent)),
-        Call::OwnersWithCompletions => {
-            let answer = lists::owners_with_completions(flows, lent);
-            asking(flows, Said::Answered(answer))
-        }
+        Call::OwnersWithCompletions => asking(
+            flows,
+            Said::Answered(lists::owners_with_completions(flows, lent)),
+        ),
         Call::NextCompletionDelay => changing(questions::next_completion_delay(flows)),
         Call::EstimateNew(e) => estimate(flows, e, path),
         Call::Settle => changing(time_left::settle(flows)),
-        Call::Remaining(id) => {
-            let left = time_left::remaining(flows, id);
-            asking(flows, Said::TimeLeft(left))
-        }
-        Call::MeanInFlight(edge, until) => {
-            let answer = questions::mean_in_flight(flows, edge, until);
-            asking(flows, Said::Answered(answer))
-        }
+        Call::Remaining(id) => asking(flows, Said::TimeLeft(time_left::remaining(flows, id))),
+        Call::MeanInFlight(edge, until) => asking(
+            flows,
+            Said::Answered(questions::mean_in_flight(flows, edge, until)),
+        ),
         Call::Rate(id) => changing(questions::rate(flows, id)),
         Call::Bottleneck(id) => changing(questions::bottleneck(flows, id)),
         Call::Edge(edge) => asking(flows, Said::Edge(questions::edge(flows, edge))),
@@ -52,17 +50,16 @@ fn submit(flows: Flows, s: Submission, path: &[u32]) -> Made
     ensures exactly { result ≡ the_changing (submit_capped s.id s.owner path.now s.bytes s.latency s.cap s.time flows) }
     ensures sound { Invariant result.flows }
 {
-    let owner = s.owner;
-    let cap = s.cap;
-    changing(submission::submit_capped(flows, s.id, owner, path, s.bytes, s.latency, cap, s.time))
+    changing(submission::submit_capped(
+        flows, s.id, s.owner, path, s.bytes, s.latency, s.cap, s.time,
+    ))
 }
 
 fn estimate(flows: Flows, e: Estimate, path: &[u32]) -> Made
     requires { Invariant flows }
     ensures { result ≡ the_asking flows (Answered (estimate_new_capped path.now e.bytes e.latency e.cap flows)) }
 {
-    let cap = e.cap;
-    let answer = estimates::estimate_new_capped(flows, path, e.bytes, e.latency, cap);
+    let answer = estimates::estimate_new_capped(flows, path, e.bytes, e.latency, e.cap);
     asking(flows, Said::Answered(answer))
 }
 
@@ -70,11 +67,9 @@ fn estimate(flows: Flows, e: Estimate, path: &[u32]) -> Made
 fn changing(outcome: Outcome) -> Made
     ensures { result ≡ the_changing outcome }
 {
-    let answer = outcome.answer;
-    let flows = outcome.flows;
     Made {
-        said: Said::Answered(answer),
-        flows,
+        said: Said::Answered(outcome.answer),
+        flows: outcome.flows,
     }
 }
 
