@@ -57,7 +57,7 @@ pub fn names_no_edge(path: &[u32], n: usize) -> bool
     path.iter().any(|e| n <= wide(*e))
 }
 
-// A lent path of at most eight edges, put into the places of a transfer.
+// A lent path of at most eight edges, put into the places of a transfer: by index, since it fills a longer array.
 pub fn route_of(path: &[u32]) -> Route
     requires { length path.now ≤ 8 }
     ensures { result ≡ route path.now }
@@ -72,7 +72,7 @@ pub fn route_of(path: &[u32]) -> Route
     }
 }
 
-// A u32 as an edge number.
+// A u32 as an edge number: by a cast, since Rust has no `From` between the two.
 pub fn wide(x: u32) -> usize
     ensures { result ≡ x }
 {

@@ -10,7 +10,7 @@ ghost use Rattle.rules.specs.Invariant.{Invariant};
 
 use rules::{Call, Estimate, Flows, Made, Outcome, Said, Submission};
 
-// Makes a call, with the path and the buffer that are lent beside it; most calls use neither.
+// Makes a call, with the path and the buffer that are lent beside it; most calls use neither. A `match` and no table of functions, for a call is the data of scripts and of histories.
 #[tactic(auto, using(crate::proofs::Asked::owners_asked), unfolding(rules::specs::Histories::call))]
 pub fn make(flows: Flows, call: Call, path: &[u32], lent: &mut [u32]) -> Made
     requires { Invariant flows }

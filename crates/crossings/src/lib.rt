@@ -35,7 +35,7 @@ pub fn loads_of<F: Fn(Transfer) -> bool>(in_flight: &[Transfer; 256], counts: F)
     load
 }
 
-// The load integrals after `dt` seconds, each edge crossed as often as its load says.
+// The load integrals after `dt` seconds, each edge crossed as often as its load says: by index, since the proof over a `zip` speaks of both its halves and is longer.
 pub fn gain_busy_all(edges: &[Edge; 64], load: &[usize; 64], dt: f64) -> [Edge; 64]
     ensures { result ≡ map_from 0 (λ e edge. gain_busy dt (get_or load.now e 0) edge) edges.now }
 {

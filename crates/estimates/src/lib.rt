@@ -48,7 +48,7 @@ pub fn estimate_new_capped(
     Answer::Value(estimate(&flows, path, amount, wait, cap))
 }
 
-// Whether one of the numbers cannot be taken.
+// Whether one of the numbers cannot be taken; an estimate has no time, and a submission no double for its bytes.
 fn not_numbers(bytes: f64, latency: f64, cap: Cap) -> bool
     ensures { result ≡ (not_an_amount bytes || not_finite latency || not_a_cap cap) }
 {

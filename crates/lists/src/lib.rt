@@ -33,7 +33,7 @@ fn comes_again(waiting: &[Completion], i: usize) -> bool
     i + 1 < waiting.len() && owners::same_owner(waiting[i].owner, waiting[i + 1].owner)
 }
 
-// How many owners have entries: each is counted at its last one.
+// How many owners have entries: each is counted at its last one. By index, since an entry is looked at beside the next.
 fn num_owners(waiting: &[Completion]) -> usize
     requires { InOrder (length waiting.now) waiting.now }
     ensures { result ≡ length (owners waiting.now) }

@@ -17,6 +17,7 @@ pub enum Owner {
 }
 
 // The private limit on a transfer's rate, in bytes a second, if it has one.
+// An enum and no Option, for document 01 has it so ("Our forms"); so are `Delay`, `NextDone` and `Best`.
 #[derive(Clone, Copy)]
 pub enum Cap {
     AtMost(f64),
@@ -39,6 +40,7 @@ pub enum Delay {
 }
 
 // When the next transfer is done under the rates of the last filling.
+// The form of `Delay`, which document 01 fixes: definitions and theorems on histories speak of it.
 #[derive(Clone, Copy)]
 pub enum NextDone {
     At(f64),
@@ -57,6 +59,7 @@ pub struct Edge {
 }
 
 // The edges that a transfer crosses, in order: the first `len` of the places, and zeros behind them.
+// A length beside its places, as in all tables here: the simulator is fixed memory with no heap, and equal states are equal.
 #[derive(Clone, Copy)]
 pub struct Route {
     pub hops: [usize; 8],
@@ -64,6 +67,7 @@ pub struct Route {
 }
 
 // A slot of the table: a transfer in flight where `taken`, and otherwise the blank.
+// A mark and no Option: the blank's fields stand in `free`, and so in the definitions and the invariant.
 #[derive(Clone, Copy)]
 pub struct Transfer {
     pub taken: bool,
@@ -133,6 +137,7 @@ pub struct Tolerance {
 }
 
 // The simulator.
+// Its invariant stands in contracts and not in the type, since promises speak of any simulator (`WatchedAsUnwatched`, `FloorStays`).
 #[derive(Clone, Copy)]
 pub struct Flows {
     pub edges: [Edge; 64],
@@ -167,7 +172,7 @@ pub enum Answer {
     Due(Delay),
     // Why a transfer is no faster.
     Limited(Limit),
-    // The number of the refusal, by document 01's table.
+    // The number of the refusal, by document 01's table, which asks for a number and so leaves no error enum.
     Refused(u32),
 }
 
@@ -179,6 +184,7 @@ pub struct Outcome {
 }
 
 // An edge as it was asked for, or the number of the refusal.
+// An enum and no Result: the public call `edge` and the theorems of uniqueness answer it.
 #[derive(Clone, Copy)]
 pub enum EdgeRead {
     Found(Edge),
@@ -257,7 +263,7 @@ pub struct Seat {
     pub unfrozen: bool,
 }
 
-// The smallest of some caps: whose slot it is, and the cap. Not everybody has one.
+// The smallest of some caps: whose slot it is, and the cap. Not everybody has one. (Document 01, "Our forms".)
 #[derive(Clone, Copy)]
 pub enum Best {
     At(usize, f64),

@@ -1,4 +1,5 @@
 // The fields that answers and dumps are made of, most with a blank in front, and the page that they gather on.
+// Functions and no `Display`: a clause says how many bytes a field may take, which a formatter's writer can't promise. They are one for each width.
 #![tactic(auto)]
 
 mod page;

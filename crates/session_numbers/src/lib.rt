@@ -123,7 +123,7 @@ fn fraction(n: u64, digits: usize, places: usize) -> Option<f64>
     Some(doubles::whole(n) / doubles::whole(10u64.pow(places as u32)))
 }
 
-// ---- the next word of a line as a number
+// ---- the next word of a line as a number: one function for each definition of specs/Next
 
 // A number below 2^64, in decimal, and where the word ends.
 #[tactic(auto, unfolding(crate::specs::Next::long_in, crate::specs::Next::long_to, session_words::specs::Words::bytes_of))]

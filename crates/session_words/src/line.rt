@@ -4,6 +4,7 @@ ghost use Rattle.std.specs.Prelude.{◌≤◌, ◌≡◌};
 use crate::is_blank;
 
 // How much of the buffer is the line's, whether the rest of it is a remark, and whether it had more bytes than the buffer.
+// Two marks and no enum of cases: a line may be both.
 #[derive(Clone, Copy)]
 pub struct Line {
     pub len: usize,

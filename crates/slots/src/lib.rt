@@ -9,6 +9,7 @@ ghost use Rattle.slots.specs.Lookup.{lookup, first_free};
 use rules::Transfer;
 
 // Where a transfer was found.
+// An enum and no Option, for document 01 has it so ("Our forms").
 #[derive(Clone, Copy)]
 pub enum Lookup {
     Slot(usize),

@@ -60,14 +60,14 @@ pub fn submit_capped(
     starting::start(flows, transfer, bytes)
 }
 
-// Whether one of the numbers cannot be taken.
+// Whether one of the numbers cannot be taken; an estimate has no time, and a submission no double for its bytes.
 fn not_numbers(latency: f64, rate_cap: Cap, time: f64) -> bool
     ensures { result ≡ (not_finite latency || not_a_cap rate_cap || not_a_time time) }
 {
     arguments::not_finite(latency) || arguments::not_a_cap(rate_cap) || arguments::not_a_time(time)
 }
 
-// The transfer as it is put into its slot: no bytes flow before a filling, and it has been drained up to its own time.
+// The transfer as it is put into its slot: no bytes flow before a filling, and it has been drained up to its own time. Its arguments come one by one, as in the definition and the public call.
 fn submitted_transfer(
     id: u32,
     owner: Owner,

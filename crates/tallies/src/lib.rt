@@ -22,7 +22,7 @@ pub fn tally_of(totals: Totals, owner: Owner) -> Tally
     }
 }
 
-// One more submitted, with its bytes.
+// One more submitted, with its bytes. Three names, each by its own definition, over one function.
 pub fn submitted(flows: &mut Flows, owner: Owner, bytes: u64)
     requires { (tally_of owner flows.old.totals).submitted + 1 < 2 ^ 64 }
     ensures { flows.new ≡ on_tally owner (count_submitted bytes) flows.old }

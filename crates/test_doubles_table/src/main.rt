@@ -21,7 +21,7 @@ fn main(rt: HostRuntime) -> io::Result<()> {
     each_line(text, b'w', |count| show_count(&rt, count))
 }
 
-// Reads until the buffer is full or the input ends, and answers how many bytes stand at its start.
+// Reads until the buffer is full or the input ends, and answers how many bytes stand at its start. A `while`, for how often it reads is not known before.
 fn read_full<R: Read>(input: &mut R, buf: &mut [u8]) -> io::Result<usize>
     ensures { IfOk result (λ n. n ≤ length buf.new) }
 {

@@ -76,7 +76,7 @@ pub fn rounds(flows: Flows) -> usize
     flows.clock.rounds
 }
 
-// ---- what was counted of each kind of owner
+// ---- what was counted of each kind of owner: four public names with a contract each, over one function
 
 // How many were submitted.
 pub fn submitted_counts(flows: Flows) -> Counts
