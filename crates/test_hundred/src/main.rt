@@ -8,73 +8,6 @@ ghost use Rattle.rules.specs.Invariant.{Invariant};
 use flows::{Answer, Cap, Delay, EdgeRead, Flows, Limit, Outcome, Owner};
 use std::io;
 
-// The calls.
-#[derive(Clone, Copy)]
-enum Kind {
-    AddEdge,
-    Widen,
-    Submit,
-    SubmitCapped,
-    NextCompletionDelay,
-    Rate,
-    Bottleneck,
-    EstimateNew,
-    EstimateNewCapped,
-    Settle,
-    Remaining,
-    Advance,
-    Cancel,
-    OwnersWithCompletions,
-    TakeCompleted,
-    MeanInFlight,
-    Edge,
-    Contains,
-    Now,
-    Rounds,
-    NumEdges,
-    NumInFlight,
-    NumUncollected,
-    PeakInFlight,
-    Totals,
-    SubmittedCounts,
-    CompletedCounts,
-    CancelledCounts,
-    BytesSubmitted,
-}
-
-// In the order in which they are called.
-const KINDS: [Kind; 29] = [
-    Kind::AddEdge,
-    Kind::Widen,
-    Kind::Submit,
-    Kind::SubmitCapped,
-    Kind::NextCompletionDelay,
-    Kind::Rate,
-    Kind::Bottleneck,
-    Kind::EstimateNew,
-    Kind::EstimateNewCapped,
-    Kind::Settle,
-    Kind::Remaining,
-    Kind::Advance,
-    Kind::Cancel,
-    Kind::OwnersWithCompletions,
-    Kind::TakeCompleted,
-    Kind::MeanInFlight,
-    Kind::Edge,
-    Kind::Contains,
-    Kind::Now,
-    Kind::Rounds,
-    Kind::NumEdges,
-    Kind::NumInFlight,
-    Kind::NumUncollected,
-    Kind::PeakInFlight,
-    Kind::Totals,
-    Kind::SubmittedCounts,
-    Kind::CompletedCounts,
-    Kind::CancelledCounts,
-    Kind::BytesSubmitted,
-];
-
 // How many calls of a kind did their work, found nothing to do it on, or were refused.
 #[derive(Clone, Copy, Default)]
 struct Counts {
@@ -84,56 +17,199 @@ struct Counts {
 }
 
 fn main(rt: HostRuntime) -> io::Result<()> {
-    let mut lent = [0u32; 768];
     let mut flows = Flows::new();
-    for kind in KINDS {
-        let mut counts = Counts::default();
-        let mut last = 0;
-        for i in 0..100 {
-            let made = called(flows, kind, i, &mut lent);
-            flows = made.flows;
-            counts.count(made.answer);
-            last = number(made.answer);
-        }
-        tell(&rt, kind, counts, last)?;
-    }
-    Ok(())
+    begun(&rt, &mut flows)?;
+    shared(&rt, &mut flows)?;
+    ended(&rt, &mut flows)?;
+    asked(&rt, &flows)?;
+    read(&rt, &flows)
 }
 
-// ---- the calls
+// ---- the kinds, in the order in which they are called
 
-// The i-th call of a kind.
-fn called(flows: Flows, kind: Kind, i: u32, lent: &mut [u32; 768]) -> Outcome
-    requires sound { Invariant flows }
-    requires bounded { i < 100 }
-    ensures { Invariant result.flows }
+fn begun(rt: &HostRuntime, flows: &mut Flows) -> io::Result<()>
+    requires { Invariant flows.now }
+    ensures { Invariant flows.new }
 {
-    match kind {
-        Kind::AddEdge => flows::add_edge(flows, doubles::whole(i as u64)),
-        Kind::Widen => flows::widen(flows, i, 1.0),
-        Kind::Submit => submitted(flows, i),
-        Kind::SubmitCapped => submitted_capped(flows, i),
-        Kind::Advance => flows::advance(flows, doubles::whole(i as u64) / 16.0, lent),
-        Kind::Cancel => flows::cancel(flows, 2 * i),
-        Kind::TakeCompleted => flows::take_completed(flows, Owner::Worker(i), lent),
-        Kind::NextCompletionDelay => flows::next_completion_delay(flows),
-        Kind::Rate => flows::rate(flows, 2 * i),
-        Kind::Bottleneck => flows::bottleneck(flows, 2 * i),
-        Kind::Settle => flows::settle(flows),
-        _ => Outcome {
-            answer: asked(flows, kind, i, lent),
-            flows,
-        },
-    }
+    hundred(
+        rt,
+        "add_edge",
+        flows,
+        |flows, i| flows::add_edge(flows, doubles::whole(u64::from(i))),
+    )?;
+    hundred(rt, "widen", flows, |flows, i| flows::widen(flows, i, 1.0))?;
+    hundred(rt, "submit", flows, submitted)?;
+    hundred(rt, "submit_capped", flows, submitted_capped)
 }
+
+fn shared(rt: &HostRuntime, flows: &mut Flows) -> io::Result<()>
+    requires { Invariant flows.now }
+    ensures { Invariant flows.new }
+{
+    hundred(
+        rt,
+        "next_completion_delay",
+        flows,
+        |flows, _| flows::next_completion_delay(flows),
+    )?;
+    hundred(rt, "rate", flows, |flows, i| flows::rate(flows, 2 * i))?;
+    hundred(
+        rt,
+        "bottleneck",
+        flows,
+        |flows, i| flows::bottleneck(flows, 2 * i),
+    )?;
+    questions(rt, "estimate_new", |i| estimated(*flows, i))?;
+    questions(rt, "estimate_new_capped", |i| estimated_capped(*flows, i))?;
+    hundred(rt, "settle", flows, |flows, _| flows::settle(flows))?;
+    questions(rt, "remaining", |i| flows::remaining(*flows, i).answer)
+}
+
+fn ended(rt: &HostRuntime, flows: &mut Flows) -> io::Result<()>
+    requires { Invariant flows.now }
+    ensures { Invariant flows.new }
+{
+    let mut lent = [0u32; 768];
+    hundred(
+        rt,
+        "advance",
+        flows,
+        |flows, i| flows::advance(flows, doubles::whole(u64::from(i)) / 16.0, &mut lent),
+    )?;
+    hundred(rt, "cancel", flows, |flows, i| flows::cancel(flows, 2 * i))?;
+    questions(
+        rt,
+        "owners_with_completions",
+        |_| flows::owners_with_completions(*flows, &mut lent),
+    )?;
+    hundred(
+        rt,
+        "take_completed",
+        flows,
+        |flows, i| flows::take_completed(flows, Owner::Worker(i), &mut lent),
+    )
+}
+
+fn asked(rt: &HostRuntime, flows: &Flows) -> io::Result<()>
+    requires { Invariant flows.now }
+{
+    questions(
+        rt,
+        "mean_in_flight",
+        |i| flows::mean_in_flight(*flows, i % 64, doubles::whole(u64::from(i))),
+    )?;
+    questions(rt, "edge", |i| edge(*flows, i % 64))?;
+    questions(rt, "contains", |i| contains(*flows, i))?;
+    questions(rt, "now", |_| Answer::Value(flows::now(*flows)))
+}
+
+fn read(rt: &HostRuntime, flows: &Flows) -> io::Result<()> {
+    questions(rt, "rounds", |_| Answer::Listed(flows::rounds(*flows)))?;
+    questions(
+        rt,
+        "num_edges",
+        |_| Answer::Listed(flows::num_edges(*flows)),
+    )?;
+    questions(
+        rt,
+        "num_in_flight",
+        |_| Answer::Listed(flows::num_in_flight(*flows)),
+    )?;
+    questions(
+        rt,
+        "num_uncollected",
+        |_| Answer::Listed(flows::num_uncollected(*flows)),
+    )?;
+    questions(
+        rt,
+        "peak_in_flight",
+        |_| Answer::Listed(flows::peak_in_flight(*flows)),
+    )?;
+    questions(
+        rt,
+        "totals",
+        |_| Answer::Listed(flows::totals(*flows).peak_in_flight),
+    )?;
+    questions(
+        rt,
+        "submitted_counts",
+        |_| whole(flows::submitted_counts(*flows).worker),
+    )?;
+    questions(
+        rt,
+        "completed_counts",
+        |_| whole(flows::completed_counts(*flows).handoff),
+    )?;
+    questions(
+        rt,
+        "cancelled_counts",
+        |_| whole(flows::cancelled_counts(*flows).worker),
+    )?;
+    questions(
+        rt,
+        "bytes_submitted",
+        |_| Answer::Value(flows::bytes_submitted(*flows).worker),
+    )
+}
+
+// ---- a hundred of a kind
+
+// Calls that may change the simulator: each is given it as the one before left it.
+#[inline(never)]
+fn hundred<R: Print, F: FnMut(Flows, u32) -> Outcome>(
+    rt: &R,
+    name: &str,
+    flows: &mut Flows,
+    mut call: F,
+) -> io::Result<()>
+    requires sound { Invariant flows.now }
+    requires callable { (state : F) (given : _) (i : _) → Invariant given → i < 100 → F.pre state given i }
+    requires answers { (state : F) (given : _) (i : _) (made : _) (after : F) → Invariant given → i < 100 → F.step state given i made after → Invariant made.flows }
+    ensures { Invariant flows.new }
+{
+    let mut counts = Counts::default();
+    let mut last = 0;
+    for i in 0..100 {
+        let made = call(*flows, i);
+        *flows = made.flows;
+        counts.count(made.answer);
+        last = number(made.answer);
+    }
+    tell(rt, name, counts, last)
+}
+
+// Questions, which leave the simulator as it is.
+#[inline(never)]
+fn questions<R: Print, F: FnMut(u32) -> Answer>(rt: &R, name: &str, mut ask: F) -> io::Result<()>
+    requires { F.IsAlwaysCallable ask }
+{
+    let mut counts = Counts::default();
+    let mut last = 0;
+    for i in 0..100 {
+        let answer = ask(i);
+        counts.count(answer);
+        last = number(answer);
+    }
+    tell(rt, name, counts, last)
+}
+
+// ---- the i-th of a kind
 
 fn submitted(flows: Flows, i: u32) -> Outcome
     requires sound { Invariant flows }
     ensures { Invariant result.flows }
 {
     let path = [i % 64];
-    let time = doubles::whole(i as u64) / 1024.0;
-    flows::submit(flows, i, Owner::Worker(i % 4), &path, i as u64, 0.5, time)
+    let time = doubles::whole(u64::from(i)) / 1024.0;
+    flows::submit(
+        flows,
+        i,
+        Owner::Worker(i % 4),
+        &path,
+        u64::from(i),
+        0.5,
+        time,
+    )
 }
 
 fn submitted_capped(flows: Flows, i: u32) -> Outcome
@@ -142,43 +218,23 @@ fn submitted_capped(flows: Flows, i: u32) -> Outcome
     ensures { Invariant result.flows }
 {
     let path = [i % 64, 63 - i % 64];
-    let cap = Cap::AtMost(doubles::whole(i as u64));
-    let time = doubles::whole(i as u64 + 100) / 1024.0;
-    flows::submit_capped(
-        flows,
-        i + 100,
-        Owner::Handoff,
-        &path,
-        i as u64,
-        0.5,
-        cap,
-        time,
-    )
+    let bytes = u64::from(i);
+    let cap = Cap::AtMost(doubles::whole(bytes));
+    let time = doubles::whole(bytes + 100) / 1024.0;
+    flows::submit_capped(flows, i + 100, Owner::Handoff, &path, bytes, 0.5, cap, time)
 }
 
-// ---- the questions that leave the simulator as it is
-
-fn asked(flows: Flows, kind: Kind, i: u32, lent: &mut [u32; 768]) -> Answer
+fn estimated(flows: Flows, i: u32) -> Answer
     requires { Invariant flows }
 {
-    let x = doubles::whole(i as u64);
-    match kind {
-        Kind::EstimateNew => {
-            let path = [i % 64];
-            flows::estimate_new(flows, &path, x, 0.5)
-        }
-        Kind::EstimateNewCapped => {
-            let path = [i % 64];
-            flows::estimate_new_capped(flows, &path, x, 0.5, Cap::AtMost(x))
-        }
-        Kind::Remaining => flows::remaining(flows, i).answer,
-        Kind::MeanInFlight => flows::mean_in_flight(flows, i % 64, x),
-        Kind::OwnersWithCompletions => flows::owners_with_completions(flows, lent),
-        Kind::Edge => edge(flows, i % 64),
-        Kind::Contains => contains(flows, i),
-        Kind::Now => Answer::Value(flows::now(flows)),
-        _ => number_of(flows, kind),
-    }
+    flows::estimate_new(flows, &[i % 64], doubles::whole(u64::from(i)), 0.5)
+}
+
+fn estimated_capped(flows: Flows, i: u32) -> Answer
+    requires { Invariant flows }
+{
+    let x = doubles::whole(u64::from(i));
+    flows::estimate_new_capped(flows, &[i % 64], x, 0.5, Cap::AtMost(x))
 }
 
 fn edge(flows: Flows, number: u32) -> Answer
@@ -198,25 +254,8 @@ fn contains(flows: Flows, id: u32) -> Answer {
     }
 }
 
-fn number_of(flows: Flows, kind: Kind) -> Answer {
-    match kind {
-        Kind::Rounds => Answer::Listed(flows::rounds(flows)),
-        Kind::NumEdges => Answer::Listed(flows::num_edges(flows)),
-        Kind::NumInFlight => Answer::Listed(flows::num_in_flight(flows)),
-        Kind::NumUncollected => Answer::Listed(flows::num_uncollected(flows)),
-        Kind::PeakInFlight => Answer::Listed(flows::peak_in_flight(flows)),
-        Kind::Totals => Answer::Listed(flows::totals(flows).peak_in_flight),
-        Kind::SubmittedCounts => Answer::Value(doubles::whole(
-            flows::submitted_counts(flows).worker,
-        )),
-        Kind::CompletedCounts => Answer::Value(doubles::whole(
-            flows::completed_counts(flows).handoff,
-        )),
-        Kind::CancelledCounts => Answer::Value(doubles::whole(
-            flows::cancelled_counts(flows).worker,
-        )),
-        _ => Answer::Value(flows::bytes_submitted(flows).worker),
-    }
+fn whole(n: u64) -> Answer {
+    Answer::Value(doubles::whole(n))
 }
 
 // ---- the lines
@@ -232,8 +271,7 @@ impl Counts {
     }
 }
 
-fn tell(rt: &impl Print, kind: Kind, counts: Counts, last: u64) -> io::Result<()> {
-    let name = name(kind);
+fn tell(rt: &impl Print, name: &str, counts: Counts, last: u64) -> io::Result<()> {
     let Counts {
         done,
         nothing,
@@ -267,41 +305,5 @@ fn limit(l: Limit) -> u64 {
     match l {
         Limit::AtEdge(e) => e as u64,
         _ => 0,
-    }
-}
-
-// ---- the kinds
-
-fn name(kind: Kind) -> &'static str {
-    match kind {
-        Kind::AddEdge => "add_edge",
-        Kind::Widen => "widen",
-        Kind::Submit => "submit",
-        Kind::SubmitCapped => "submit_capped",
-        Kind::NextCompletionDelay => "next_completion_delay",
-        Kind::Rate => "rate",
-        Kind::Bottleneck => "bottleneck",
-        Kind::EstimateNew => "estimate_new",
-        Kind::EstimateNewCapped => "estimate_new_capped",
-        Kind::Settle => "settle",
-        Kind::Remaining => "remaining",
-        Kind::Advance => "advance",
-        Kind::Cancel => "cancel",
-        Kind::OwnersWithCompletions => "owners_with_completions",
-        Kind::TakeCompleted => "take_completed",
-        Kind::MeanInFlight => "mean_in_flight",
-        Kind::Edge => "edge",
-        Kind::Contains => "contains",
-        Kind::Now => "now",
-        Kind::Rounds => "rounds",
-        Kind::NumEdges => "num_edges",
-        Kind::NumInFlight => "num_in_flight",
-        Kind::NumUncollected => "num_uncollected",
-        Kind::PeakInFlight => "peak_in_flight",
-        Kind::Totals => "totals",
-        Kind::SubmittedCounts => "submitted_counts",
-        Kind::CompletedCounts => "completed_counts",
-        Kind::CancelledCounts => "cancelled_counts",
-        Kind::BytesSubmitted => "bytes_submitted",
     }
 }
