@@ -25,7 +25,7 @@ fn main(rt: HostRuntime) -> io::Result<()> {
     read(&rt, &flows)
 }
 
-// Not joined to main, whose frame stands below every call: there it brings two more places for a simulator along.
+// Not joined to main, whose frame stands below every call: it would bring a place for one more simulator along.
 #[inline(never)]
 fn fresh() -> Flows
     ensures { Invariant result }
@@ -162,7 +162,8 @@ fn read(rt: &HostRuntime, flows: &Flows) -> io::Result<()> {
 
 // ---- a hundred of a kind
 
-// Calls that may change the simulator: each is given it as the one before left it.
+// Calls that may change the simulator: each is given it as the one before left it. Neither this nor `questions` is joined to its caller, where the
+// places of all kinds would stand in one frame.
 #[inline(never)]
 fn hundred<R: Print, F: FnMut(Flows, u32) -> Outcome>(
     rt: &R,
@@ -171,8 +172,8 @@ fn hundred<R: Print, F: FnMut(Flows, u32) -> Outcome>(
     mut call: F,
 ) -> io::Result<()>
     requires sound { Invariant flows.now }
-    requires callable { (state : F) (given : _) (i : _) → Invariant given → i < 100 → F.pre state given i }
-    requires answers { (state : F) (given : _) (i : _) (made : _) (after : F) → Invariant given → i < 100 → F.step state given i made after → Invariant made.flows }
+    requires callable { (f : F) (given : _) (i : _) → Invariant given → i < 100 → F.pre f given i }
+    requires keeps { (f : F) (given : _) (i : _) (made : _) (f' : F) → Invariant given → i < 100 → F.step f given i made f' → Invariant made.flows }
     ensures { Invariant flows.new }
 {
     let mut counts = Counts::default();
