@@ -36,7 +36,10 @@ pub fn not_a_time(x: f64) -> bool
 pub fn not_a_cap(cap: Cap) -> bool
     ensures { result ≡ not_a_cap cap }
 {
-    matches!(cap, Cap::AtMost(c) if not_an_amount(c))
+    let Cap::AtMost(c) = cap else {
+        return false;
+    };
+    not_an_amount(c)
 }
 
 // The cap with a negative zero read as zero.
@@ -44,10 +47,10 @@ pub fn not_a_cap(cap: Cap) -> bool
 pub fn read_cap(cap: Cap) -> Cap
     ensures { result ≡ read_cap cap }
 {
-    match cap {
-        Cap::AtMost(c) => Cap::AtMost(doubles::read_zero(c)),
-        Cap::Uncapped => Cap::Uncapped,
-    }
+    let Cap::AtMost(c) = cap else {
+        return Cap::Uncapped;
+    };
+    Cap::AtMost(doubles::read_zero(c))
 }
 
 // Whether a lent path names an edge that n edges do not have.

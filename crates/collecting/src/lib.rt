@@ -55,7 +55,7 @@ fn belongs(owner: Owner, c: Completion) -> bool
     owners::same_owner(owner, c.owner)
 }
 
-// The owner's ids at the front of the buffer, in the order of the queue.
+// The owner's ids at the front of the buffer, in the order of the queue. The place is counted, since not every entry takes one.
 fn write_ids(waiting: &[Completion], owner: Owner, out: &mut [u32])
     requires room { count (belongs owner) waiting.now ≤ length out.old }
     ensures { out.new ≡ write_front (map (λ c. c.id) (those (belongs owner) waiting.now)) out.old }

@@ -12,7 +12,7 @@ ghost use Rattle.crossings.specs.Loads.{loads_by};
 
 use rules::{Answer, Cap, Edge, Flows};
 
-// How long a new transfer would take without a cap of its own.
+// How long a new transfer would take without a cap of its own: the Rust has a name for each.
 #[tactic(auto, unfolding(rules::specs::Questions::estimate_new))]
 pub fn estimate_new(flows: Flows, path: &[u32], bytes: f64, latency: f64) -> Answer
     requires { Invariant flows }

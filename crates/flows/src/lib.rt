@@ -7,7 +7,7 @@ pub use rules::{
     Made, NextDone, Outcome, Owner, Route, Said, Submission, Tally, TimeLeft, Tolerance, Totals,
     Transfer,
 };
-pub use totals::{Bytes, Counts};
+pub use totals::{Bytes, Counts, PerKind};
 
 // ---- calls
 pub use advance::advance;

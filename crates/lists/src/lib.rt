@@ -47,7 +47,7 @@ fn num_owners(waiting: &[Completion]) -> usize
     found
 }
 
-// The owners with entries at the front of the buffer, two numbers each.
+// The owners with entries at the front of the buffer, two numbers each. Each writer has its own entries: a closure would need its bound on the buffer at every call.
 fn write_owners(waiting: &[Completion], out: &mut [u32])
     requires in_order { InOrder (length waiting.now) waiting.now }
     requires room { 2 * length (owners waiting.now) ≤ length out.old }

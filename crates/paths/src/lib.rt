@@ -24,7 +24,8 @@ pub fn crosses(path: &[usize], e: usize) -> bool
     path.contains(&e)
 }
 
-// Takes a rate off what is left of each edge, once for each crossing, and never below 0.
+// Takes a rate off what is left of each edge, once for each crossing, and never below 0. One function for each change:
+// over a closure, `raise` and `lower` would have to say at each crossing that theirs may be called there.
 pub fn spend(residual: &mut [f64], path: &[usize], rate: f64)
     requires { Known (length residual.old) path.now }
     ensures { residual.new ≡ at_each_crossing path.now (the_spend rate) residual.old }

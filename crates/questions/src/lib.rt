@@ -40,7 +40,7 @@ fn delay_until(now: f64, next_done_at: NextDone) -> Delay
     Delay::After(doubles::larger(next - now, 0.0))
 }
 
-// The bytes a second that a transfer gets.
+// The bytes a second that a transfer gets. (A public name of its own, as `bottleneck` is.)
 #[tactic(auto, unfolding(rules::specs::Questions::rate, rules::specs::Questions::rate_in))]
 pub fn rate(flows: Flows, id: u32) -> Outcome
     requires { Invariant flows }

@@ -26,7 +26,7 @@ pub struct Decision {
 #[derive(Clone, Copy)]
 pub struct Scratch {
     pub seats: [Seat; 256],
-    // What is left of each edge's capacity, and its crossings by the unfrozen: two tables, as the definitions of a filling have them.
+    // What is left of each edge's capacity, and its crossings by the unfrozen: two tables, for the definitions of a filling have the first alone.
     pub residual: [f64; 64],
     pub load: [usize; 64],
     pub unfrozen: usize,

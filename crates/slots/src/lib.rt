@@ -30,10 +30,10 @@ pub fn find(in_flight: &[Transfer; 256], id: u32) -> Lookup
 pub fn of_id(in_flight: &[Transfer; 256], id: u32) -> Transfer
     ensures { result ≡ of_id id free (λ t. t) in_flight.now }
 {
-    match find(in_flight, id) {
-        Lookup::Slot(i) => in_flight[i],
-        Lookup::Nowhere => Transfer::free(),
-    }
+    let Lookup::Slot(i) = find(in_flight, id) else {
+        return Transfer::free();
+    };
+    in_flight[i]
 }
 
 // The lowest slot that holds nobody, where not all are taken.

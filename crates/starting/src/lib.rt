@@ -73,7 +73,5 @@ fn joined(flows: &mut Flows, transfer: Transfer)
     let i = slots::free_slot(&flows.in_flight);
     flows.in_flight[i] = transfer;
     let n = slots::num_taken(&flows.in_flight);
-    if flows.totals.peak_in_flight < n {
-        flows.totals.peak_in_flight = n;
-    }
+    flows.totals.peak_in_flight = flows.totals.peak_in_flight.max(n);
 }

@@ -9,7 +9,7 @@ ghost use Rattle.rules.specs.Invariant.{Invariant};
 
 use rules::{Cap, Flows, Limit, Outcome, Owner, Transfer};
 
-// A transfer starts, with no cap of its own.
+// A transfer starts, with no cap of its own: the Rust has a name for each.
 pub fn submit(
     flows: Flows,
     id: u32,

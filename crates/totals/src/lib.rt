@@ -35,7 +35,10 @@ pub fn num_edges(flows: Flows) -> usize
 pub fn contains(flows: Flows, id: u32) -> bool
     ensures { result ≡ contains id flows }
 {
-    matches!(slots::find(&flows.in_flight, id), Lookup::Slot(_))
+    let Lookup::Slot(_) = slots::find(&flows.in_flight, id) else {
+        return false;
+    };
+    true
 }
 
 // How many transfers are in flight.

@@ -1,5 +1,4 @@
 -- `joined` places the transfer by one store; whether or not the peak is raised, it is then the larger of itself and the number in flight. Assumes nothing.
-use Prim.Native.Nat.{max}
 use native.Mathlib.Omega.{arith}
 use mathlib.Core.Path.{◌≡◌}
 use lib.ListN.{set}
@@ -13,20 +12,10 @@ pub free_slot-i-requires : goal.free_slot-i-requires
 unfolding num_in_flight
 free_slot-i-requires c = c.requires
 
-pub returns-then-flows-n : goal.returns-then-flows-n
+pub returns : goal.returns
 unfolding peak_taken with_in_flight with_totals num_in_flight
-returns-then-flows-n c =
+returns c =
     let args = c.args in
     let slots = args.flows.now.in_flight in
     let counted : count (λ t. t.taken) (set slots c.free_slot-i.result args.transfer) ≡ c.num_taken-n.result = omega (arith, c.num_taken-n.ensures.exactly) in
-    let peak : max args.flows.now.totals.peak_in_flight c.num_taken-n.result ≡ c.num_taken-n.result = omega arith in
-    rw (placed_is args.transfer slots, ← c.free_slot-i.ensures.lowest, counted, peak)
-
-pub returns-else-flows-n : goal.returns-else-flows-n
-unfolding peak_taken with_in_flight with_totals num_in_flight
-returns-else-flows-n c =
-    let args = c.args in
-    let slots = args.flows.now.in_flight in
-    let counted : count (λ t. t.taken) (set slots c.free_slot-i.result args.transfer) ≡ c.num_taken-n.result = omega (arith, c.num_taken-n.ensures.exactly) in
-    let peak : max args.flows.now.totals.peak_in_flight c.num_taken-n.result ≡ args.flows.now.totals.peak_in_flight = omega arith in
-    rw (placed_is args.transfer slots, ← c.free_slot-i.ensures.lowest, counted, peak)
+    rw (placed_is args.transfer slots, ← c.free_slot-i.ensures.lowest, counted, ← c.max-flows.ensures)
