@@ -17,7 +17,7 @@ pub enum Owner {
 }
 
 // The private limit on a transfer's rate, in bytes a second, if it has one.
-// An enum and no Option, for document 01 has it so ("Our forms"); so are `Delay` and `Best`.
+// An enum and no Option, for document 01 has it so ("Our forms"); so are `Delay`, `NextDone` and `Best`.
 #[derive(Clone, Copy)]
 pub enum Cap {
     AtMost(f64),
