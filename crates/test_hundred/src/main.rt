@@ -22,7 +22,8 @@ fn main(rt: HostRuntime) -> io::Result<()> {
     shared(&rt, &mut flows)?;
     ended(&rt, &mut flows)?;
     asked(&rt, &flows)?;
-    read(&rt, &flows)
+    read(&rt, &flows)?;
+    tallied(&rt, &flows)
 }
 
 // Not joined to main, whose frame stands below every call: it would bring a place for one more simulator along.
@@ -137,7 +138,10 @@ fn read(rt: &HostRuntime, flows: &Flows) -> io::Result<()> {
         rt,
         "totals",
         |_| Answer::Listed(flows::totals(*flows).peak_in_flight),
-    )?;
+    )
+}
+
+fn tallied(rt: &HostRuntime, flows: &Flows) -> io::Result<()> {
     questions(
         rt,
         "submitted_counts",
