@@ -108,6 +108,7 @@ fn lines<R: Print + Eprint + Alloc>(
     ensures len_bound_2 { result.len ≤ 4096 }
 {
     let mut rest = bytes;
+    // A `while let`: each turn cuts one line off, and what has no end yet is left over.
     while let Some(end) = rest.iter().position(|b| *b == b'\n') {
         line = gathered(line, &rest[..end], text);
         ended(rt, flows, line, text, page);

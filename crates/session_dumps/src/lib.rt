@@ -104,9 +104,7 @@ fn kind(page: &mut Page, name: &[u8; 6], counted: Tally)
 fn edge_line<R: Print + Eprint + Alloc>(rt: &R, page: &mut Page, number: usize, edge: Edge) {
     room(rt, page);
     named(page, b"edge", number as u64);
-    spaced_double(page, edge.capacity);
-    spaced_double(page, edge.bytes_moved);
-    spaced_double(page, edge.busy_transfer_seconds);
+    session_fields::edge(page, edge);
     page.put_text(b"\n");
 }
 

@@ -7,7 +7,7 @@ mod page;
 ghost use Rattle.std.specs.Prelude.{◌+◌, ◌≤◌, length};
 
 pub use page::{fail, room, write_out};
-use rules::{Limit, Owner, Tally};
+use rules::{Edge, Limit, Owner, Tally};
 use session_pages::Page;
 
 pub fn spaced(page: &mut Page, n: u64)
@@ -64,6 +64,16 @@ pub fn limit(page: &mut Page, limit: Limit)
         Limit::AtCap => page.put_text(b"cap"),
         Limit::Nowhere => page.put_text(b"none"),
     }
+}
+
+// What an edge can carry, what has passed it, and how long transfers were busy on it.
+pub fn edge(page: &mut Page, edge: Edge)
+    requires { page.old.len ≤ 65000 }
+    ensures { page.new.len ≤ page.old.len + 51 }
+{
+    spaced_double(page, edge.capacity);
+    spaced_double(page, edge.bytes_moved);
+    spaced_double(page, edge.busy_transfer_seconds);
 }
 
 // What has been counted of a kind.

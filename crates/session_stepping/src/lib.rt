@@ -4,12 +4,13 @@
 ghost use Rattle.std.specs.Prelude.{◌≤◌, length};
 ghost use Rattle.rules.specs.Invariant.{Invariant};
 
-use rules::{Answer, Delay, Flows, NextDone};
+use rules::{Answer, Delay, Flows};
 use session_fields::{room, spaced};
 use session_pages::Page;
 use session_told::{entries, remark};
 
-// How a walk stands after a step: the step listed somebody, or nobody, or was the last.
+// How a walk stands: no step was taken yet or the last one listed somebody, or it listed nobody, or it ended the walk.
+#[derive(Clone, Copy, PartialEq)]
 enum Walk {
     Going,
     Stuck,
@@ -55,12 +56,11 @@ fn walk_by<R: Print + Eprint + Alloc>(
     requires { Invariant flows.old }
     ensures { Invariant flows.new }
 {
-    let mut stuck = false;
+    let mut walk = Walk::Going;
     for _ in 0..u64::MAX {
-        match step(rt, flows, stuck, last, to_last, page) {
-            Walk::Going => stuck = false,
-            Walk::Stuck => stuck = true,
-            Walk::Over => break,
+        walk = step(rt, flows, walk, last, to_last, page);
+        if walk == Walk::Over {
+            break;
         }
     }
     room(rt, page);
@@ -71,7 +71,7 @@ fn walk_by<R: Print + Eprint + Alloc>(
 fn step<R: Print + Eprint + Alloc>(
     rt: &R,
     flows: &mut Flows,
-    stuck: bool,
+    walk: Walk,
     last: f64,
     to_last: bool,
     page: &mut Page,
@@ -81,33 +81,33 @@ fn step<R: Print + Eprint + Alloc>(
 {
     let asked = flows::next_completion_delay(*flows);
     *flows = asked.flows;
-    let next = ahead(asked.answer, flows.clock.now, stuck);
-    let NextDone::At(time) = by(next, last, to_last) else {
+    let next = ahead(asked.answer, flows.clock.now, walk);
+    let Some(time) = by(next, last, to_last) else {
         return Walk::Over;
     };
     stepped(rt, flows, time, to_last && !(time < last), page)
 }
 
 // When the next completion comes. Where the last step listed nobody and the delay leads nowhere, the next double is tried.
-fn ahead(answer: Answer, now: f64, stuck: bool) -> NextDone {
+fn ahead(answer: Answer, now: f64, walk: Walk) -> Option<f64> {
     let Answer::Due(Delay::After(seconds)) = answer else {
-        return NextDone::Nobody;
+        return None;
     };
     let time = now + seconds;
-    if stuck && !(now < time) {
+    if walk == Walk::Stuck && !(now < time) {
         let bits = doubles::bits_of(now).wrapping_add(1);
-        return NextDone::At(doubles::of_bits(bits));
+        return Some(doubles::of_bits(bits));
     }
-    NextDone::At(time)
+    Some(time)
 }
 
 // The time of the next step: that of the next completion where it comes by the last time, and otherwise that time itself, or none.
-fn by(next: NextDone, last: f64, to_last: bool) -> NextDone {
+fn by(next: Option<f64>, last: f64, to_last: bool) -> Option<f64> {
     match next {
-        NextDone::At(time) if time < last => next,
-        _ if to_last => NextDone::At(last),
-        NextDone::At(time) if time <= last => next,
-        _ => NextDone::Nobody,
+        Some(time) if time < last => next,
+        _ if to_last => Some(last),
+        Some(time) if time <= last => next,
+        _ => None,
     }
 }
 

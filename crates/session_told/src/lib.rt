@@ -8,7 +8,7 @@ ghost use Rattle.flows.specs.Fits.{width_of, Fits, FitsSaid};
 use rules::{Answer, Call, Delay, Edge, EdgeRead, Flows, Limit, Said, TimeLeft};
 use session_asked::Look;
 use session_dumps::dump;
-use session_fields::{limit, named, spaced, spaced_double, spaced_short, tally};
+use session_fields::{limit, named, spaced, spaced_short, tally};
 use session_pages::{Page, readable};
 
 // ---- calls
@@ -204,9 +204,7 @@ fn edge_line(page: &mut Page, edge: Edge)
     requires { page.old.len ≤ 49152 }
 {
     page.put_text(b"edge");
-    spaced_double(page, edge.capacity);
-    spaced_double(page, edge.bytes_moved);
-    spaced_double(page, edge.busy_transfer_seconds);
+    session_fields::edge(page, edge);
     remark_of_three(page, edge);
     page.put_text(b"\n");
 }

@@ -17,6 +17,7 @@ pub struct Word {
 }
 
 // The first word at or behind a place. A place behind the line's end counts as its end.
+// A line and a place, here and in `past`, and no rest of a line: their definitions are over both.
 #[tactic(auto, unfolding(crate::specs::Words::next_word))]
 pub fn next_word(line: &[u8], at: usize) -> Word
     ensures exactly { result ≡ the_next_word line.now at }

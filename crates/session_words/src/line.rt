@@ -4,7 +4,7 @@ ghost use Rattle.std.specs.Prelude.{◌≤◌, ◌≡◌};
 use crate::is_blank;
 
 // How much of the buffer is the line's, whether the rest of it is a remark, and whether it had more bytes than the buffer.
-// Two marks and no enum of cases: a line may be both.
+// Two marks and no enum of cases: a line may be both. The text is lent and no field, since the program keeps one buffer for all lines.
 #[derive(Clone, Copy)]
 pub struct Line {
     pub len: usize,
