@@ -1,5 +1,5 @@
 // A hundred calls of each kind on one simulator; of each kind it says how many did their work, found nothing or were refused, and what the last one
-// answered. tools/stack runs it in 1.5 MB of stack. What it has to print is what the patched copy of the Rust answers to the same calls.
+// answered. tools/stack runs it in 1 MB of stack. What it has to print is what the patched copy of the Rust answers to the same calls.
 #![tactic(auto)]
 
 ghost use Rattle.std.specs.Prelude.{◌<◌};
