@@ -1,0 +1,2 @@
+pub mod PutBack
+pub mod Shifted

@@ -1,12 +1,14 @@
 // Draining: transfers brought forward to a time, and the edges credited with what they move.
 #![tactic(auto)]
 
-ghost use Rattle.std.specs.Prelude.{◌≡◌, length};
+ghost use Rattle.std.specs.Prelude.{◌≡◌, get_or};
 ghost use mathlib.Core.List.{map, foldl};
-ghost use Rattle.rules.specs.Lists.{Each};
+ghost use Rattle.doubles.specs.Doubles.{nought};
+ghost use Rattle.rules.specs.Lists.{Each, map_from};
 ghost use Rattle.rules.specs.Records.{free, own_path};
 ghost use Rattle.rules.specs.Clock.{latency_paid, flowing_time, moves, bytes_flowing, drained, deliver};
 ghost use Rattle.rules.specs.Invariant.{SoundRoute};
+ghost use Rattle.draining.specs.Credits.{credited, with_moved};
 
 use rules::{Edge, Transfer};
 
@@ -69,25 +71,42 @@ pub fn drained_all(in_flight: &[Transfer; 256], until: f64) -> [Transfer; 256]
 
 // ---- the edges
 
-// The edges with the bytes that a drain moves, slot by slot and crossing by crossing.
+// The edges with the bytes that a drain moves, slot by slot and crossing by crossing. The sums are kept apart from the edges meanwhile.
 pub fn delivered(edges: &[Edge; 64], in_flight: &[Transfer; 256], until: f64) -> [Edge; 64]
     requires { Each (λ t. SoundRoute 64 t.path) free in_flight.now }
     ensures { result ≡ foldl (deliver own_path until) edges.now in_flight.now }
 {
-    let mut after = *edges;
+    let mut moved = bytes_moved(edges);
     for t in in_flight {
-        deliver(&mut after, *t, until);
+        deliver(&mut moved, *t, until);
     }
-    after
+    with_bytes_moved(edges, &moved)
 }
 
 // What one transfer moves in a drain, added at each of its crossings.
-fn deliver(edges: &mut [Edge], t: Transfer, until: f64)
-    requires places { length edges.old ≡ 64 }
-    requires path { SoundRoute 64 t.path }
-    ensures { edges.new ≡ deliver own_path until edges.old t }
+fn deliver(moved: &mut [f64; 64], t: Transfer, until: f64)
+    requires { SoundRoute 64 t.path }
+    ensures { moved.new ≡ credited until moved.old t }
 {
     if moves(t, until) {
-        paths::credit(edges, paths::hops(&t.path), bytes_flowing(t, until));
+        paths::credit(moved, paths::hops(&t.path), bytes_flowing(t, until));
     }
+}
+
+// The bytes moved over each edge so far.
+fn bytes_moved(edges: &[Edge; 64]) -> [f64; 64]
+    ensures { result ≡ map (λ e. e.bytes_moved) edges.now }
+{
+    edges.map(|e| e.bytes_moved)
+}
+
+// The edges with other sums of bytes moved: by index, as in `crossings::gain_busy_all`.
+fn with_bytes_moved(edges: &[Edge; 64], moved: &[f64; 64]) -> [Edge; 64]
+    ensures { result ≡ map_from 0 (λ e edge. with_moved (get_or moved.now e nought) edge) edges.now }
+{
+    let mut after = *edges;
+    for e in 0..64 {
+        after[e].bytes_moved = moved[e];
+    }
+    after
 }

@@ -2,12 +2,12 @@
 #![tactic(auto)]
 
 ghost use Rattle.std.specs.Prelude.{◌+◌, ◌-◌, ◌≡◌, ◌≤◌, length, take, eqb};
+ghost use Rattle.doubles.specs.Doubles.{◌⊕◌};
 ghost use Rattle.rules.specs.Lists.{any, at_each_crossing};
 ghost use Rattle.rules.specs.Filling.{spend as the_spend};
-ghost use Rattle.rules.specs.Clock.{gain_moved};
 ghost use Rattle.paths.specs.Known.{Known, Roomy, Counted};
 
-use rules::{Edge, Route};
+use rules::Route;
 
 // The edges that a route names, as a path that can be lent.
 pub fn hops(route: &Route) -> &[usize]
@@ -35,13 +35,13 @@ pub fn spend(residual: &mut [f64], path: &[usize], rate: f64)
     }
 }
 
-// Adds an amount to the bytes moved over each edge, once for each crossing.
-pub fn credit(edges: &mut [Edge], path: &[usize], amount: f64)
-    requires { Known (length edges.old) path.now }
-    ensures { edges.new ≡ at_each_crossing path.now (gain_moved amount) edges.old }
+// Adds an amount at each edge, once for each crossing.
+pub fn credit(moved: &mut [f64], path: &[usize], amount: f64)
+    requires { Known (length moved.old) path.now }
+    ensures { moved.new ≡ at_each_crossing path.now (λ m. m ⊕ amount) moved.old }
 {
     for e in path {
-        edges[*e].bytes_moved += amount;
+        moved[*e] += amount;
     }
 }
 
