@@ -65,7 +65,7 @@ fn run_script<R: Print + Eprint + Alloc, I: Read>(rt: &R, input: &mut I, name: &
         );
     }
     ended(rt, &mut flows, line, &text, &mut page);
-    session_fields::write_out(rt, &mut page);
+    session_fields::write_out(rt, &page.text, page.len);
 }
 
 // How many bytes a read put at the buffer's start. One that fails is told of, and counts as the end.
@@ -115,7 +115,7 @@ fn lines<R: Print + Eprint + Alloc>(
         line = Line::new();
         rest = &rest[end + 1..];
     }
-    session_fields::write_out(rt, page);
+    page.len = session_fields::write_out(rt, &page.text, page.len);
     gathered(line, rest, text)
 }
 

@@ -9,19 +9,19 @@ pub fn room<R: Print + Eprint + Alloc>(rt: &R, page: &mut Page)
     ensures { page.new.len ≤ 49152 }
 {
     if page.len > 49152 {
-        write_out(rt, page);
+        page.len = write_out(rt, &page.text, page.len);
     }
 }
 
-// Writes out what was put on a page, which is free again from its start.
-pub fn write_out<R: Print + Eprint + Alloc>(rt: &R, page: &mut Page)
-    ensures behind { page.new.len ≡ 0 }
-    ensures kept { page.new.text ≡ page.old.text }
+// Writes out what stands before a place. The page is free again from its start, which is the answer.
+pub fn write_out<R: Print + Eprint + Alloc>(rt: &R, page: &[u8; 65536], at: usize) -> usize
+    requires { at ≤ 65536 }
+    ensures { result ≡ 0 }
 {
-    if let Err(error) = rt.write_all(&page.text[..page.len]) {
-        fail(rt, "standard output", error);
+    match rt.write_all(&page[..at]) {
+        Ok(()) => 0,
+        Err(error) => fail(rt, "standard output", error),
     }
-    page.len = 0;
 }
 
 // A line on standard error: what failed, as the caller names it, and why. Where that cannot be written either, nothing is left to tell it to.
