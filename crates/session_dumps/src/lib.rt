@@ -1,7 +1,7 @@
 // The whole state as text. Nothing is filled or drained for it.
 #![tactic(auto)]
 
-ghost use Rattle.std.specs.Prelude.{◌+◌, ◌≤◌};
+ghost use Rattle.std.specs.Prelude.{◌+◌, ◌<◌, ◌≤◌};
 ghost use Rattle.rules.specs.Invariant.{Invariant};
 
 use rules::{
@@ -15,7 +15,8 @@ use session_pages::Page;
 pub fn dump<R: Print + Eprint + Alloc>(rt: &R, flows: Flows, page: &mut Page)
     requires invariant { Invariant flows }
     requires at_bound { page.old.len ≤ 49152 }
-    ensures { page.new.len ≤ 65536 }
+    ensures within { page.new.len ≤ 65536 }
+    ensures told { 0 < page.new.len }
 {
     times(page, flows.clock);
     sizes(page, flows);

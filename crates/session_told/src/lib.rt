@@ -1,7 +1,7 @@
 // Answers as text, one line each: a double by its bits, with a remark in decimal for people where one can be made.
 #![tactic(auto)]
 
-ghost use Rattle.std.specs.Prelude.{◌+◌, ◌*◌, ◌≤◌, ◌≡◌, length};
+ghost use Rattle.std.specs.Prelude.{◌+◌, ◌*◌, ◌<◌, ◌≤◌, ◌≡◌, length};
 ghost use Rattle.rules.specs.Invariant.{Invariant};
 ghost use Rattle.flows.specs.Fits.{width_of, Fits, FitsSaid};
 
@@ -18,7 +18,8 @@ use session_pages::{Page, readable};
 pub fn said(said: Said, width: usize, lent: &[u32], page: &mut Page)
     requires fits_said { FitsSaid width (length lent.now) said }
     requires lent_len_bound { (length lent.now ≤ 1024) × (page.old.len ≤ 49152) }
-    ensures { page.new.len ≤ 65536 }
+    ensures within { page.new.len ≤ 65536 }
+    ensures told { 0 < page.new.len }
 {
     match said {
         Said::Answered(given) => answer(given, width, lent, page),
@@ -31,6 +32,7 @@ pub fn said(said: Said, width: usize, lent: &[u32], page: &mut Page)
 
 fn edge_read(page: &mut Page, read: EdgeRead)
     requires { page.old.len ≤ 49152 }
+    ensures { 0 < page.new.len }
 {
     match read {
         EdgeRead::Found(edge) => edge_line(page, edge),
@@ -41,6 +43,7 @@ fn edge_read(page: &mut Page, read: EdgeRead)
 // The time left, with a word on whether that is of now; the remark on a time comes last.
 fn time_left(page: &mut Page, left: TimeLeft)
     requires { page.old.len ≤ 49152 }
+    ensures { 0 < page.new.len }
 {
     if let Answer::Value(x) = left.answer {
         page.put_text(b"value ");
@@ -77,6 +80,7 @@ fn whether_of_now(page: &mut Page, behind: bool)
 
 fn truth(page: &mut Page, yes: bool)
     requires { page.old.len ≤ 49152 }
+    ensures { 0 < page.new.len }
 {
     if yes {
         page.put_text(b"yes\n");
@@ -90,6 +94,7 @@ fn truth(page: &mut Page, yes: bool)
 fn answer(answer: Answer, width: usize, lent: &[u32], page: &mut Page)
     requires fits { Fits width (length lent.now) answer }
     requires lent_len_bound { (length lent.now ≤ 1024) × (page.old.len ≤ 49152) }
+    ensures { 0 < page.new.len }
 {
     match answer {
         Answer::Done => page.put_text(b"done\n"),
@@ -117,6 +122,7 @@ fn answer(answer: Answer, width: usize, lent: &[u32], page: &mut Page)
 // The end of an answer that writes no list, with a word where the buffer was written all the same.
 fn unwritten(page: &mut Page, lent: &[u32])
     requires { page.old.len ≤ 65000 }
+    ensures { 0 < page.new.len }
 {
     if untouched(lent) {
         page.put_text(b"\n");
@@ -129,6 +135,7 @@ fn unwritten(page: &mut Page, lent: &[u32])
 fn list(page: &mut Page, n: usize, width: usize, lent: &[u32])
     requires width_in_bounds { n * width ≤ length lent.now }
     requires lent_len_bound { (length lent.now ≤ 1024) × (page.old.len ≤ 49152) }
+    ensures { 0 < page.new.len }
 {
     let (listed, tail) = lent.split_at(n * width);
     page.put_text(b"list");
@@ -158,6 +165,7 @@ fn untouched(lent: &[u32]) -> bool {
 
 fn due(page: &mut Page, delay: Delay)
     requires { page.old.len ≤ 49152 }
+    ensures { 0 < page.new.len }
 {
     match delay {
         Delay::After(x) => valued(page, b"after ", x),
@@ -167,6 +175,7 @@ fn due(page: &mut Page, delay: Delay)
 
 fn limited(page: &mut Page, by: Limit)
     requires { page.old.len ≤ 49152 }
+    ensures { 0 < page.new.len }
 {
     limit(page, by);
     page.put_text(b"\n");
@@ -191,7 +200,8 @@ pub fn width(call: Call) -> usize
 pub fn look<R: Print + Eprint + Alloc>(rt: &R, flows: Flows, look: Look, page: &mut Page)
     requires invariant { Invariant flows }
     requires at_bound { page.old.len ≤ 49152 }
-    ensures { page.new.len ≤ 65536 }
+    ensures within { page.new.len ≤ 65536 }
+    ensures told { 0 < page.new.len }
 {
     match look {
         Look::Now => valued(page, b"value ", flows::now(flows)),
@@ -202,6 +212,7 @@ pub fn look<R: Print + Eprint + Alloc>(rt: &R, flows: Flows, look: Look, page: &
 
 fn edge_line(page: &mut Page, edge: Edge)
     requires { page.old.len ≤ 49152 }
+    ensures { 0 < page.new.len }
 {
     page.put_text(b"edge");
     session_fields::edge(page, edge);
@@ -230,6 +241,7 @@ fn remark_of_three(page: &mut Page, edge: Edge)
 fn counts(flows: Flows, page: &mut Page)
     requires invariant { Invariant flows }
     requires at_bound { page.old.len ≤ 49152 }
+    ensures { 0 < page.new.len }
 {
     let totals = flows::totals(flows);
     sizes(flows, page);
@@ -254,6 +266,7 @@ fn sizes(flows: Flows, page: &mut Page)
 
 fn numbered(page: &mut Page, name: &[u8], n: u64)
     requires { (length name.now ≤ 8) × (page.old.len ≤ 49152) }
+    ensures { 0 < page.new.len }
 {
     named(page, name, n);
     page.put_text(b"\n");
@@ -262,6 +275,7 @@ fn numbered(page: &mut Page, name: &[u8], n: u64)
 // A double with a remark, where it can have one.
 fn valued(page: &mut Page, name: &[u8], x: f64)
     requires { (length name.now ≤ 8) × (page.old.len ≤ 49152) }
+    ensures { 0 < page.new.len }
 {
     page.put_text(name);
     page.put_double(x);
