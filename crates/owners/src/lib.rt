@@ -51,8 +51,8 @@ pub fn owner_before(a: Owner, b: Owner) -> bool
 
 // ---- completions
 
-// Whether one completion stands before another in the queue.
-#[tactic(auto, using(crate::proofs::Derived::completions_lt))]
+// Whether one completion stands before another in the queue. The definitions are opened too, so that a body which takes owners apart is judged by what it answers.
+#[tactic(auto, using(crate::proofs::Derived::completions_lt), unfolding(rules::specs::Records::before, rules::specs::Records::owner_before, rules::specs::Records::same_owner, rules::specs::Records::owner_kind, rules::specs::Records::owner_worker))]
 pub fn before(c: Completion, d: Completion) -> bool
     ensures { result ≡ before c d }
 {

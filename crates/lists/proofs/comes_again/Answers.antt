@@ -2,6 +2,8 @@
 use mathlib.Core.Path.{sym, ◌∙◌}
 use native.Mathlib.Omega.{arith}
 use borrow.Author.Tests.{le-ltb}
+use borrow.Author.Rules.{rules}
+use lib.ListN.{get_or}
 use Rattle.rules.specs.Records.{blank_completion}
 use Rattle.rules.proofs.Steps.{get_d_any}
 use Rattle.queue.proofs.Taken.{past_end}
@@ -14,4 +16,7 @@ returns-then-i-waiting c =
     (c.same_owner.ensures ∙ sym (comes_again c.args.waiting.now c.args.i past_end c.requires.in_order (omega arith)))
 
 pub returns-else-i-waiting : goal.returns-else-i-waiting
-returns-else-i-waiting c = le-ltb _ _ c.if-i-waiting.false ∙ sym (comes_last c.args.waiting.now c.args.i _ (omega arith))
+returns-else-i-waiting c =
+    let at_last = le-ltb _ _ c.if-i-waiting.false in
+    let none = comes_last c.args.waiting.now c.args.i (get_or c.args.waiting.now c.args.i blank_completion).owner (omega arith) in
+    search rules
